@@ -1,0 +1,3 @@
+// Lines copied from one host to another.
+pub mod answers;
+pub mod copies;

@@ -1,0 +1,3 @@
+// A print buffer of fixed room.
+pub mod appending;
+pub mod buffers;

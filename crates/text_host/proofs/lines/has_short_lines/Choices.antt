@@ -1,0 +1,7 @@
+use mathlib.Core.Path.{_≡_}
+use lib.ListN.{drop}
+use Rattle.text_host.specs.Lines.{short-run}
+use Rattle.text_host.proofs.lines.has_short_lines.Given as given
+
+abbrev pub Inv-loop-b : given.InvT-loop-b
+Inv-loop-b l = short-run (l .run) (drop (l .b-index) (l .bytes)) ≡ short-run 0 (l .bytes)
