@@ -3,14 +3,12 @@ ghost use mathlib.Core.Path.{_≡_};
 ghost use Prim.Native.Nat.{_^_, _<_, _≤_};
 ghost use lib.ListN.{drop, length};
 ghost use Rattle.numeral.specs.Numerals.{numeral};
-
-// How many digits the longest numeral has.
-const MOST: usize = 10;
+use crate::writer::LONGEST_NUMERAL;
 
 // The digits of a number, in the last places of the row.
 #[derive(Drop)]
 pub(crate) struct DigitRow {
-    digits: [u8; MOST],
+    digits: [u8; LONGEST_NUMERAL],
     start: usize,
     ghost within: { start ≤ 10 },
     ghost full: { length digits ≡ 10 },
@@ -20,8 +18,8 @@ impl DigitRow {
     pub(crate) fn of(n: u32) -> DigitRow
         ensures { λ r. ⌜ drop (r .start) (r .digits) ≡ numeral n ⌝ }
     {
-        let mut digits = [0; MOST];
-        let mut start = MOST;
+        let mut digits = [0; LONGEST_NUMERAL];
+        let mut start = LONGEST_NUMERAL;
         let mut left = n;
         while left >= 10 {
             start -= 1;

@@ -7,6 +7,9 @@ use crate::rows::DigitRow;
 // The largest number that is written: the magnitude of the least 32-bit signed integer.
 const LARGEST: u32 = 2_147_483_648;
 
+// How many digits the longest numeral has.
+pub const LONGEST_NUMERAL: usize = 10;
+
 // Writes the numeral of `n` at the front of `place`, and tells how many digits it has; the rest of the place is
 // as it was, and all of it where the call refuses.
 pub fn write_numeral(n: u32, place: &mut [u8]) -> Result<usize, NumeralError>
