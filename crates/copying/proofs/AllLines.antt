@@ -104,7 +104,7 @@ after n (l ∷ ls) a b e =
     by-test n l ls a b e (after (n + 1) ls (without-first a ls) (with-line b l) refl) (ltb (b .spare) (length l + 1)) refl
 
 -- copying loses no line and doubles none
-moved-so : (a b : Meaning) → Moved a b (copied a b .answer) (copied a b .source) (copied a b .target)
+pub moved-so : (a b : Meaning) → Moved a b (copied a b .answer) (copied a b .source) (copied a b .target)
 moved-so a b =
     let r = after 0 (a .lines) a b refl in
     let k = r .counted in

@@ -2,6 +2,7 @@
 use mathlib.Core.List.{List}
 use mathlib.Core.Path.{_≡_, refl, sym, subst}
 use Prim.Native.Nat.{ℕ}
+use native.Mathlib.Omega.{arith}
 use Rattle.std.specs.declared.option.Option.{Option}
 use Rattle.std.specs.declared.option.Option.the-variants.{Some, None}
 use Rattle.std.specs.declared.result.Result.{Result}
@@ -19,3 +20,12 @@ module _ {X F : Type 0} (holds : X → List ℕ) (bs : List ℕ) (flaw : Option 
 
   pub is-wanting : flaw ≡ None → Checks holds bs flaw (Err NoMemory)
   is-wanting e = subst (λ o. Checks holds bs o (Err NoMemory)) (sym e) refl
+
+-- what a value that was made tells
+pub record Passed {X F : Type 0} (holds : X → List ℕ) (bs : List ℕ) (flaw : Option F) (x : X) : Type 0 where
+  pub flawless : flaw ≡ None
+  pub same : holds x ≡ bs
+
+pub passed : {X F : Type 0} (holds : X → List ℕ) (bs : List ℕ) (flaw : Option F) (x : X) → Checks holds bs flaw (Ok x) → Passed holds bs flaw x
+passed holds bs (Some f) x h = let z : _≡_ {A = ℕ} 0 1 = cc in absurd (omega arith)
+passed holds bs None x h = record { flawless = refl; same = h }

@@ -6,12 +6,13 @@ use Prim.Native.Nat.{ℕ, zero, suc, _+_, _-_, _*_, _/_, _%_, _^_, _≤_, _<_}
 use native.Mathlib.Nat.{pow-suc}
 use native.Mathlib.Omega.{arith}
 use lib.Dec.{ltb}
-use lib.ListN.{length, drop, set}
+use lib.ListN.{length, take, drop, set}
 use Rattle.std.proofs.shelf.Bits.{div-below}
-use Rattle.std.proofs.shelf.Lists.{append-nil, drop-set}
+use Rattle.std.proofs.shelf.Lists.{append-nil, drop-set, take-at}
 use Rattle.std.proofs.shelf.Decimals.{SpellsOnto, decimal-from-onto, length-decimal-le}
 use Rattle.std.specs.Written.{decimal}
-use Rattle.numeral.specs.Numerals.{numeral, numeral-before, Standard}
+use Rattle.std.specs.declared.result.Result.the-variants.{Ok, Err}
+use Rattle.numeral.specs.Numerals.{Standard, numeral, numeral-before, written}
 
 -- a number of two digits or more has no place below 10 ^ 1
 pub room : (s n : ℕ) → 10 ≤ n → n < 10 ^ s → 1 < s
@@ -59,3 +60,9 @@ numeral-standard n h =
     let fits : n < 2 ^ 64 = omega arith in
     let few : length (decimal n) ≤ 10 = length-decimal-le 10 n (omega arith) h fits in
     decimal-from-onto numeral-before onto 10 n [] fits few ∙ append-nil (decimal n)
+
+-- what was written, cut out of the place again
+pub written-front : (n count : ℕ) (place place′ : List ℕ) → n ≤ 2147483648 → written n place .result ≡ Ok count → place′ ≡ written n place .place → take count place′ ≡ numeral n
+written-front n count place place′ h e f =
+    let t = take-at (numeral n) (drop (length (numeral n)) place) (length (numeral n)) refl in
+    grind arith

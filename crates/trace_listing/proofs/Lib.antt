@@ -1,0 +1,2 @@
+pub mod CopiedFacts
+pub mod FitFacts

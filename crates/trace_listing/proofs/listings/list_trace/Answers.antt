@@ -1,0 +1,29 @@
+use mathlib.Core.Path.{_≡_, sym, ap, _∙_, subst}
+use mathlib.Core.List.{List, []}
+use Prim.Native.Nat.{ℕ}
+use lib.ListN.{drop}
+use Rattle.copying.specs.Copies.{copied}
+use Rattle.host.specs.Meaning.{Meaning}
+use Rattle.host.proofs.Checked.{passed}
+use Rattle.tracer_host.specs.Frames.{unframed}
+use Rattle.tracer_host.specs.HostMeaning.{trace-bytes, tracer-meaning}
+use Rattle.tracer_host.specs.Traces.{radii-of, radius-lines, trace-flaw}
+use Rattle.trace_listing.specs.Listings.{AsManyAsFit, copied-listing, listing-by, pile-start, tracer-start}
+use Rattle.trace_listing.proofs.FitFacts.{as-many}
+use Rattle.trace_listing.proofs.listings.list_trace.Needs as need
+
+-- a tracer host over these bytes, and over a frame buffer without bytes or room
+fresh : (bs held frames : List ℕ) (room : ℕ) → held ≡ bs → frames ≡ [] → room ≡ 0 → _≡_ {A = Meaning} (record { lines = radius-lines (drop 7 held); printed = unframed 0 frames; spare = room }) (tracer-start bs)
+fresh bs held frames room e f g = cc
+
+pub returns-in-Ok : need.returns-in-Ok
+returns-in-Ok c =
+    let input = c .args .input .now in
+    let p = passed trace-bytes input (trace-flaw input) (c .in-Ok .trace) (c .in-Ok .ensures tt) in
+    let frames = c .in-Continue-frames .ensures tt in
+    let start : tracer-meaning (c .new-in-Ok .result) ≡ tracer-start input = c .new-in-Ok .ensures ∙ fresh input _ _ _ (p .same) (frames .0) (frames .1) in
+    let rs = radii-of (drop 7 input) in
+    record {
+      bytes = c .list-lines .ensures ∙ ap (λ m. copied-listing (copied m pile-start)) start ∙ ap (λ o. listing-by o input) (sym (p .flawless));
+      fits = λ _. subst (AsManyAsFit rs) (sym (c .list-lines .ensures)) (as-many rs (tracer-meaning (c .new-in-Ok .result)) (ap (λ (m : Meaning). m .lines) start));
+    }
