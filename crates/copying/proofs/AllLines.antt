@@ -11,11 +11,11 @@ use Rattle.std.proofs.shelf.Lists.{append-nil}
 use Rattle.std.specs.declared.result.Result.{Result}
 use Rattle.std.specs.declared.result.Result.the-variants.{Ok, Err}
 use Rattle.host.specs.Meaning.{Meaning}
-use Rattle.host.specs.Calls.{fed, with-line, without-first}
+use Rattle.host.specs.Calls.{all-fed, fed, with-line, without-first}
 use Rattle.copying.specs.declared.answers.Copied.{Copied}
 use Rattle.copying.specs.declared.answers.Ending.{Ending}
 use Rattle.copying.specs.declared.answers.Ending.the-variants.{AllCopied, NoSpare}
-use Rattle.copying.specs.Copies.{All, Moved, all-fed, copied, copied-from, ends, one-of}
+use Rattle.copying.specs.Copies.{All, Moved, copied, copied-from, ends, one-of}
 
 -- hosts that meant a and b mean s and t after one line went over: the others are copied after n + 1 lines
 pub record Next (n : ℕ) (ls : List (List ℕ)) (a b s t : Meaning) : Type 0 where

@@ -8,7 +8,7 @@ use lib.ListN.{length}
 use Rattle.std.specs.declared.result.Result.{Result}
 use Rattle.std.specs.declared.result.Result.the-variants.{Ok, Err}
 use Rattle.host.specs.Meaning.{Meaning}
-use Rattle.host.specs.Calls.{fed, with-line, without-first}
+use Rattle.host.specs.Calls.{all-fed, with-line, without-first}
 use Rattle.copying.specs.declared.answers.Copied.{Copied}
 use Rattle.copying.specs.declared.answers.Ending.{Ending}
 use Rattle.copying.specs.declared.answers.Ending.the-variants.{AllCopied, NoSpare}
@@ -45,11 +45,6 @@ copied-from n (l ∷ ls) a b =
 
 abbrev pub copied : Meaning → Meaning → All
 copied a b = copied-from 0 (a .lines) a b
-
--- lines, each with its line feed
-abbrev pub all-fed : List (List ℕ) → List ℕ
-all-fed [] = []
-all-fed (l ∷ ls) = fed l ++ all-fed ls
 
 -- why copying may end with these lines waiting and so much spare: for want of lines, or for want of spare for the next
 abbrev pub ends : Ending → List (List ℕ) → ℕ → Type 0

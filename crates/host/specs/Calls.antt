@@ -51,6 +51,11 @@ admitted spare len = cond (ltb spare (len + 1)) (Err NoSpare) (cond (ltb 255 len
 abbrev pub fed : List ℕ → List ℕ
 fed line = line ++ (10 ∷ [])
 
+-- lines, each with its line feed
+abbrev pub all-fed : List (List ℕ) → List ℕ
+all-fed [] = []
+all-fed (l ∷ ls) = fed l ++ all-fed ls
+
 -- a host after a line was printed
 abbrev pub with-line : Meaning → List ℕ → Meaning
 with-line m line = record { lines = m .lines; printed = m .printed ++ fed line; spare = m .spare - (length line + 1) }

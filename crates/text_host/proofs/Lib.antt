@@ -1,1 +1,2 @@
 pub mod LineFacts
+pub mod CutFacts

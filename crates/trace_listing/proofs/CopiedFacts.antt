@@ -5,8 +5,8 @@ use Prim.Native.Nat.{ℕ, suc, _+_, _≤_}
 use native.Mathlib.Omega.{arith}
 use lib.ListN.{length, length-append}
 use Rattle.copying.specs.declared.answers.Copied.{Copied}
-use Rattle.copying.specs.Copies.{Moved, all-fed}
-use Rattle.host.specs.Calls.{fed}
+use Rattle.copying.specs.Copies.{Moved}
+use Rattle.host.specs.Calls.{all-fed, fed}
 use Rattle.host.specs.Meaning.{Meaning}
 
 -- each line costs a byte at least

@@ -8,10 +8,10 @@ use Rattle.std.proofs.shelf.Lists.{append-nil, take-at, take-map}
 use Rattle.copying.specs.declared.answers.Copied.{Copied}
 use Rattle.copying.specs.declared.answers.Ending.{Ending}
 use Rattle.copying.specs.declared.answers.Ending.the-variants.{AllCopied, NoSpare}
-use Rattle.copying.specs.Copies.{Moved, all-fed, copied, ends}
+use Rattle.copying.specs.Copies.{Moved, copied, ends}
 use Rattle.copying.specs.Endings.{ending-number}
 use Rattle.copying.proofs.AllLines.{moved-so}
-use Rattle.host.specs.Calls.{fed}
+use Rattle.host.specs.Calls.{all-fed, fed}
 use Rattle.host.specs.Meaning.{Meaning}
 use Rattle.numeral.specs.Numerals.{numeral}
 use Rattle.tracer_host.specs.Traces.{radii-of}

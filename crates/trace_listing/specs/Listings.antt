@@ -7,8 +7,9 @@ use Rattle.std.specs.declared.option.Option.{Option}
 use Rattle.std.specs.declared.option.Option.the-variants.{Some, None}
 use Rattle.copying.specs.declared.answers.Ending.{Ending}
 use Rattle.copying.specs.declared.answers.Ending.the-variants.{AllCopied, NoSpare}
-use Rattle.copying.specs.Copies.{All, all-fed, copied}
+use Rattle.copying.specs.Copies.{All, copied}
 use Rattle.copying.specs.Endings.{ending-number}
+use Rattle.host.specs.Calls.{all-fed}
 use Rattle.host.specs.Meaning.{Meaning, under-quota}
 use Rattle.numeral.specs.Numerals.{numeral}
 use Rattle.tracer_host.specs.declared.flaws.TraceFlaw.{TraceFlaw}

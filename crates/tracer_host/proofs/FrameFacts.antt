@@ -6,6 +6,8 @@ use Prim.Native.Nat.{ℕ, zero, suc}
 use native.Mathlib.Omega.{arith}
 use lib.Dec.{eqb}
 use lib.ListN.{length}
+use Rattle.host.specs.Calls.{all-fed, fed}
+use Rattle.tracer_host.specs.Files.{FramesReadBack, frames-of}
 use Rattle.tracer_host.specs.Frames.{closed, pending, unframed}
 
 closed-append : (n : ℕ) (xs ys : List ℕ) → closed n (xs ++ ys) ≡ closed n xs ++ ys
@@ -38,3 +40,12 @@ module _ (xs l : List ℕ) (whole : pending 0 xs ≡ 0) where
 
   pub frame-pending : pending 0 (xs ++ (length l ∷ l)) ≡ 0
   frame-pending = pending-append 0 xs (length l ∷ l) ∙ ap (λ n. pending n (length l ∷ l)) whole ∙ line-pending l
+
+-- frames read back as the lines that they hold
+pub frames-read-back : FramesReadBack
+frames-read-back [] = refl
+frames-read-back (l ∷ ls) =
+    unframed-append 0 (length l ∷ l) (frames-of ls)
+    ∙ ap (λ n. unframed 0 (length l ∷ l) ++ unframed n (frames-of ls)) (line-pending l)
+    ∙ ap (λ x. x ++ unframed 0 (frames-of ls)) (line-unframed l)
+    ∙ ap (λ x. fed l ++ x) (frames-read-back ls)

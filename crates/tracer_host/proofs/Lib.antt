@@ -1,2 +1,3 @@
 pub mod FrameFacts
 pub mod RadiusFacts
+pub mod FileFacts

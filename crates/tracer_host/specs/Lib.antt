@@ -1,3 +1,4 @@
 pub mod Traces
 pub mod Frames
 pub mod HostMeaning
+pub mod Files

@@ -1,6 +1,7 @@
 // The tracer host.
 ghost use mathlib.Core.Path.{_≡_};
 ghost use lib.ListN.{drop};
+ghost use Rattle.tracer_host.specs.Files.{FramesReadBack};
 ghost use Rattle.tracer_host.specs.HostMeaning.{frame-room, lines-printed, trace-bytes, tracer-frames, tracer-meaning};
 ghost use Rattle.tracer_host.specs.Traces.{radius-lines};
 use crate::checked::CheckedTrace;
@@ -37,7 +38,8 @@ impl TracerHost {
 
     // The frames that were printed.
     pub fn frames(&self) -> &[u8]
-        ensures { λ r. ⌜ now r ≡ tracer-frames (now (self .entry)) ⌝ }
+        ensures value { λ r. ⌜ now r ≡ tracer-frames (now (self .entry)) ⌝ }
+        ensures readable { λ _. ⌜ FramesReadBack ⌝ }
     {
         self.out.bytes()
     }

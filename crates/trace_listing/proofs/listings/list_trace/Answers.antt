@@ -19,7 +19,7 @@ fresh bs held frames room e f g = cc
 pub returns-in-Ok : need.returns-in-Ok
 returns-in-Ok c =
     let input = c .args .input .now in
-    let p = passed trace-bytes input (trace-flaw input) (c .in-Ok .trace) (c .in-Ok .ensures tt) in
+    let p = passed trace-bytes input (trace-flaw input) (c .in-Ok .trace) (c .in-Ok .ensures tt .answer) in
     let frames = c .in-Continue-frames .ensures tt in
     let start : tracer-meaning (c .new-in-Ok .result) ≡ tracer-start input = c .new-in-Ok .ensures ∙ fresh input _ _ _ (p .same) (frames .0) (frames .1) in
     let rs = radii-of (drop 7 input) in

@@ -7,6 +7,7 @@ use Rattle.host.proofs.Checked.{is-flawed, is-made, is-wanting}
 use Rattle.text_host.specs.declared.flaws.TextFlaw.the-variants.{LongLine}
 use Rattle.text_host.specs.HostMeaning.{text-bytes}
 use Rattle.text_host.specs.Texts.{text-flaw}
+use Rattle.text_host.proofs.CutFacts.{cuts-exactly}
 use Rattle.text_host.proofs.LineFacts.{short-is}
 use Rattle.text_host.proofs.checked.CheckedText.check.Needs as need
 
@@ -15,7 +16,7 @@ returns-then-not-has-short-lines c =
     let bs = c .args .bytes .now in
     let s = short-is bs in
     let e : text-flaw bs ≡ Some LongLine = grind arith in
-    is-flawed text-bytes bs (text-flaw bs) LongLine e
+    record { answer = is-flawed text-bytes bs (text-flaw bs) LongLine e; lines = cuts-exactly }
 
 pub ghost-result : need.ghost-result
 ghost-result c =
@@ -29,4 +30,12 @@ returns-in-Err c =
     let bs = c .args .bytes .now in
     let s = short-is bs in
     let e : text-flaw bs ≡ None = grind arith in
-    is-wanting text-bytes bs (text-flaw bs) e
+    record { answer = is-wanting text-bytes bs (text-flaw bs) e; lines = cuts-exactly }
+
+pub returns-in-Ok : need.returns-in-Ok
+returns-in-Ok c =
+    let bs = c .args .bytes .now in
+    let s = short-is bs in
+    let e : text-flaw bs ≡ None = grind arith in
+    let m = c .in-Ok .ensures tt in
+    record { answer = is-made text-bytes bs (text-flaw bs) _ e (m .made .0); lines = cuts-exactly }
