@@ -29,3 +29,8 @@ pub record Passed {X F : Type 0} (holds : X → List ℕ) (bs : List ℕ) (flaw 
 pub passed : {X F : Type 0} (holds : X → List ℕ) (bs : List ℕ) (flaw : Option F) (x : X) → Checks holds bs flaw (Ok x) → Passed holds bs flaw x
 passed holds bs (Some f) x h = let z : _≡_ {A = ℕ} 0 1 = cc in absurd (omega arith)
 passed holds bs None x h = record { flawless = refl; same = h }
+
+-- what a flaw that was told tells
+pub refused : {X F : Type 0} (holds : X → List ℕ) (bs : List ℕ) (flaw : Option F) (e : CheckError F) (f : F) → e ≡ Flawed f → Checks holds bs flaw (Err e) → flaw ≡ Some f
+refused holds bs (Some g) e f is h = cc
+refused holds bs None e f is h = let z : _≡_ {A = ℕ} 0 1 = cc in absurd (omega arith)
