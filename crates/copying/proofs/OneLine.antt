@@ -20,11 +20,11 @@ pub record Told (a b a′ b′ : Meaning) (ls : List (List ℕ)) (place place′
   pub short : Bounded ls
   pub room : length place ≡ 255
   pub waits : Some n ≡ first-length ls
-  pub spare : n < b .spare
   pub result : Ok m ≡ taken-line a ls place .result
   pub after : a′ ≡ taken-line a ls place .after
   pub filled : place′ ≡ taken-line a ls place .place
   pub cut : line ≡ take m place′
+  pub admitted : Ok tt ≡ put-line b line .result
   pub printed : b′ ≡ put-line b line .after
 
 pub record Done (a b a′ b′ : Meaning) (ls : List (List ℕ)) : Type 0 where

@@ -1,6 +1,6 @@
 // The one writer of numerals.
 ghost use mathlib.Core.Path.{_≡_};
-ghost use Rattle.numeral.specs.Numerals.{Standard, written};
+ghost use Rattle.numeral.specs.Numerals.{written};
 use crate::errors::NumeralError;
 use crate::rows::DigitRow;
 
@@ -15,7 +15,6 @@ pub const LONGEST_NUMERAL: usize = 10;
 pub fn write_numeral(n: u32, place: &mut [u8]) -> Result<usize, NumeralError>
     ensures result { λ r. ⌜ r ≡ written n (now (place .entry)) .result ⌝ }
     ensures filled { λ _. ⌜ now (place .exit) ≡ written n (now (place .entry)) .place ⌝ }
-    ensures standard { λ _. ⌜ Standard ⌝ }
 {
     if n > LARGEST {
         return Err(NumeralError::OverBound);

@@ -39,7 +39,7 @@ impl PrintBuffer {
         ensures bytes { λ _. ⌜ buffer-bytes (now (self .exit)) ≡ appended (now (self .entry)) (now (first .entry)) (now (second .entry)) .bytes ⌝ }
         ensures limit { λ _. ⌜ buffer-limit (now (self .exit)) ≡ buffer-limit (now (self .entry)) ⌝ }
     {
-        let room = self.limit - self.bytes.len();
+        let room = self.room();
         if room < first.len() || room - first.len() < second.len() {
             return Err(NoRoom);
         }

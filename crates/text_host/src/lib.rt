@@ -3,4 +3,5 @@ pub mod checked;
 pub mod checks;
 pub mod flaws;
 pub mod hosts;
+pub mod laws;
 mod lines;

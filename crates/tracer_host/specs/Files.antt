@@ -7,7 +7,7 @@ use lib.Dec.{ltb}
 use lib.ListN.{length, drop}
 use Rattle.std.specs.declared.option.Option.the-variants.{None}
 use Rattle.host.specs.Calls.{all-fed}
-use Rattle.tracer_host.specs.Frames.{unframed}
+use Rattle.tracer_host.specs.Frames.{framed, unframed}
 use Rattle.tracer_host.specs.Traces.{radii-of, trace-flaw}
 
 -- whether all these numbers are below a bound
@@ -33,7 +33,7 @@ pub record FilesExactly : Type 0 where
 -- lines as frames
 abbrev pub frames-of : List (List ℕ) → List ℕ
 frames-of [] = []
-frames-of (l ∷ ls) = (length l ∷ l) ++ frames-of ls
+frames-of (l ∷ ls) = framed l ++ frames-of ls
 
 -- what a buffer of frames stands for is each line and a line feed
 abbrev pub FramesReadBack : Type 0

@@ -1,5 +1,5 @@
 -- What a tracer host means.
-use mathlib.Core.List.{List}
+use mathlib.Core.List.{List, []}
 use Prim.Native.Nat.{ℕ}
 use lib.ListN.{drop}
 use Rattle.std.specs.Of.Vec.{vec-items}
@@ -24,6 +24,10 @@ frame-room b = buffer-room (b .buffer)
 -- what a frame buffer stands for: each line and a line feed
 abbrev pub lines-printed : FrameBuffer → List ℕ
 lines-printed b = unframed 0 (frame-bytes b)
+
+-- a frame buffer as a host without lines
+abbrev pub frames-meaning : FrameBuffer → Meaning
+frames-meaning b = record { lines = []; printed = lines-printed b; spare = frame-room b }
 
 -- the frames that a host has printed
 abbrev pub tracer-frames : TracerHost → List ℕ

@@ -2,7 +2,6 @@
 ghost use mathlib.Core.List.{[]};
 ghost use mathlib.Core.Path.{_≡_};
 ghost use Rattle.host.specs.Checks.{Checks};
-ghost use Rattle.tracer_host.specs.Files.{FilesExactly};
 ghost use Rattle.tracer_host.specs.HostMeaning.{trace-bytes};
 ghost use Rattle.tracer_host.specs.Traces.{trace-flaw};
 use crate::checked::CheckedTrace;
@@ -51,8 +50,7 @@ impl CheckedTrace {
 
     // A checked copy of `bytes`, unless they have a flaw.
     pub fn check(heap: Global, bytes: &[u8]) -> Result<CheckedTrace, CheckError<TraceFlaw>>
-        ensures answer { λ r. ⌜ Checks trace-bytes (now (bytes .entry)) (trace-flaw (now (bytes .entry))) r ⌝ }
-        ensures files { λ _. ⌜ FilesExactly ⌝ }
+        ensures { λ r. ⌜ Checks trace-bytes (now (bytes .entry)) (trace-flaw (now (bytes .entry))) r ⌝ }
     {
         if let Some(flaw) = flaw_of(bytes) {
             return Err(CheckError::Flawed(flaw));

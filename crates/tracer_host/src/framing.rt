@@ -1,9 +1,12 @@
 // What can be asked of a frame buffer, and how it grows.
-ghost use mathlib.Core.List.{[]};
+ghost use mathlib.Core.Bool.{cond};
+ghost use mathlib.Core.List.{[], _++_};
 ghost use mathlib.Core.Path.{_≡_};
+ghost use Rattle.std.specs.Results.{isOk};
 ghost use Rattle.std.specs.Vec.{made};
-ghost use Rattle.tracer_host.specs.Frames.{put-frame};
-ghost use Rattle.tracer_host.specs.HostMeaning.{frame-bytes, frame-room};
+ghost use Rattle.host.specs.Calls.{put-line};
+ghost use Rattle.tracer_host.specs.Frames.{framed};
+ghost use Rattle.tracer_host.specs.HostMeaning.{frame-bytes, frame-room, frames-meaning};
 use crate::frame_buffers::FrameBuffer;
 use host::admission::admit;
 use host::refusals::Refusal;
@@ -33,11 +36,11 @@ impl FrameBuffer {
         self.buffer.room()
     }
 
-    // Appends the line's length and its text.
+    // Prints a line: appends its length and its text.
     pub fn put_line(&mut self, line: &[u8]) -> Result<(), Refusal>
-        ensures result { λ r. ⌜ r ≡ put-frame (frame-bytes (now (self .entry))) (frame-room (now (self .entry))) (now (line .entry)) .result ⌝ }
-        ensures bytes { λ _. ⌜ frame-bytes (now (self .exit)) ≡ put-frame (frame-bytes (now (self .entry))) (frame-room (now (self .entry))) (now (line .entry)) .bytes ⌝ }
-        ensures room { λ _. ⌜ frame-room (now (self .exit)) ≡ put-frame (frame-bytes (now (self .entry))) (frame-room (now (self .entry))) (now (line .entry)) .room ⌝ }
+        ensures result { λ r. ⌜ r ≡ put-line (frames-meaning (now (self .entry))) (now (line .entry)) .result ⌝ }
+        ensures after { λ _. ⌜ frames-meaning (now (self .exit)) ≡ put-line (frames-meaning (now (self .entry))) (now (line .entry)) .after ⌝ }
+        ensures bytes { λ r. ⌜ frame-bytes (now (self .exit)) ≡ cond (isOk r) (frame-bytes (now (self .entry)) ++ framed (now (line .entry))) (frame-bytes (now (self .entry))) ⌝ }
     {
         admit(self.buffer.room(), line)?;
         self.buffer.append(&[line.len() as u8], line).unwrap();

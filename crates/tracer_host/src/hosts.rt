@@ -1,7 +1,6 @@
 // The tracer host.
 ghost use mathlib.Core.Path.{_≡_};
 ghost use lib.ListN.{drop};
-ghost use Rattle.tracer_host.specs.Files.{FramesReadBack};
 ghost use Rattle.tracer_host.specs.HostMeaning.{frame-room, lines-printed, trace-bytes, tracer-frames, tracer-meaning};
 ghost use Rattle.tracer_host.specs.Traces.{radius-lines};
 use crate::checked::CheckedTrace;
@@ -38,8 +37,7 @@ impl TracerHost {
 
     // The frames that were printed.
     pub fn frames(&self) -> &[u8]
-        ensures value { λ r. ⌜ now r ≡ tracer-frames (now (self .entry)) ⌝ }
-        ensures readable { λ _. ⌜ FramesReadBack ⌝ }
+        ensures { λ r. ⌜ now r ≡ tracer-frames (now (self .entry)) ⌝ }
     {
         self.out.bytes()
     }
@@ -49,7 +47,9 @@ pub impl Host for TracerHost as TracerHostHost {
     ghost meaning = { tracer-meaning };
 
     fn waits(&self) -> Option<usize> {
-        let radius = radius_at(self.trace.bytes(), self.at)?;
+        let Some(radius) = radius_at(self.trace.bytes(), self.at) else {
+            return None;
+        };
         let mut place = [0; LONGEST_NUMERAL];
         write_numeral(u32::from(radius), &mut place).ok()
     }

@@ -5,4 +5,5 @@ pub mod flaws;
 pub mod frame_buffers;
 pub mod framing;
 pub mod hosts;
+pub mod laws;
 mod words;

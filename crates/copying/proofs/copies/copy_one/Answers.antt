@@ -9,11 +9,11 @@ returns g c =
       short = c .in-Some .ensures tt .bounded;
       room = search needs;
       waits = c .in-Some .ensures tt .first;
-      spare = search needs;
       result = search needs;
       after = c .take .ensures .after;
       filled = c .take .ensures .filled;
       cut = search needs;
+      admitted = search needs;
       printed = c .put .ensures .after;
     }) in
     record { result = done .result; source = done .source; target = done .target; countable = search needs }

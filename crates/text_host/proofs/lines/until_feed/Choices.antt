@@ -1,7 +1,7 @@
 use mathlib.Core.Path.{_≡_}
 use Prim.Native.Nat.{_+_}
 use lib.ListN.{drop}
-use Rattle.text_host.specs.Lines.{until-feed}
+use Rattle.text_host.proofs.LineFacts.{until-feed}
 use Rattle.text_host.proofs.lines.until_feed.Given as given
 
 abbrev pub Inv-loop-b : given.InvT-loop-b

@@ -21,7 +21,7 @@ fresh bs held frames room e f g = cc
 pub returns-in-Ok : need.returns-in-Ok
 returns-in-Ok c =
     let input = c .args .input .now in
-    let p = passed trace-bytes input (trace-flaw input) (c .in-Ok .trace) (c .in-Ok .ensures tt .answer) in
+    let p = passed trace-bytes input (trace-flaw input) (c .in-Ok .trace) (c .in-Ok .ensures tt) in
     let frames = c .in-Continue-frames .ensures tt in
     let start : tracer-meaning (c .new-in-Ok .result) ≡ tracer-start input = c .new-in-Ok .ensures ∙ fresh input _ _ _ (p .same) (frames .0) (frames .1) in
     let rs = radii-of (drop 7 input) in
@@ -33,7 +33,7 @@ returns-in-Ok c =
 pub returns-in-Err-Flawed : need.returns-in-Err-Flawed
 returns-in-Err-Flawed c =
     let input = c .args .input .now in
-    let f : trace-flaw input ≡ Some (c .in-Err-Flawed .flaw) = refused trace-bytes input (trace-flaw input) _ (c .in-Err-Flawed .flaw) (cc) (c .in-Err-Flawed .ensures tt .answer) in
+    let f : trace-flaw input ≡ Some (c .in-Err-Flawed .flaw) = refused trace-bytes input (trace-flaw input) _ (c .in-Err-Flawed .flaw) (cc) (c .in-Err-Flawed .ensures tt) in
     let told = c .append-summary .ensures in
     let out = c .in-Continue-out .ensures tt in
     let l : listing input ≡ summary (flaw-number (c .in-Err-Flawed .flaw)) 0 = ap (λ o. listing-by o input) f in

@@ -1,8 +1,8 @@
 use native.Mathlib.Omega.{arith}
-use mathlib.Core.List.{[], _∷_}
-use lib.ListN.{length, length-append}
+use lib.ListN.{length-append}
+use Rattle.tracer_host.specs.Frames.{framed}
 use Rattle.tracer_host.specs.HostMeaning.{frame-bytes}
-use Rattle.tracer_host.proofs.FrameFacts.{frame-pending}
+use Rattle.tracer_host.proofs.FrameFacts.{frame-pending, frame-unframed}
 use Rattle.tracer_host.proofs.frame_buffers.FrameBuffer.put_line.Needs as need
 
 pub ghost-self : need.ghost-self
@@ -13,6 +13,8 @@ ghost-self c =
 
 pub returns : need.returns
 returns c =
+    let b = c .args .self .now in
     let line = c .args .line .now in
-    let whole = length-append (frame-bytes (c .args .self .now)) (length line ∷ line) in
-    record { result = grind arith; bytes = grind arith; room = grind arith }
+    let e = frame-unframed (frame-bytes b) line (b .whole) in
+    let whole = length-append (frame-bytes b) (framed line) in
+    record { result = grind arith; after = grind arith; bytes = grind arith }

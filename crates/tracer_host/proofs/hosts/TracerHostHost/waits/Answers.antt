@@ -9,6 +9,6 @@ use Rattle.tracer_host.proofs.hosts.TracerHostHost.waits.Needs as need
 pub returns : need.returns
 returns c =
     let h = c .args .self .now in
-    let n = length-numeral (c .in-Continue-radius .radius) in
-    let first = c .in-Continue-radius .ensures tt in
+    let n = length-numeral (c .in-Some .radius) in
+    let first = c .in-Some .ensures tt in
     record { first = grind arith; bounded = radius-short (drop (h .at) (trace-bytes (h .trace))) }
