@@ -1,0 +1,4 @@
+pub mod Order
+pub mod Trees
+pub mod Tables
+pub mod Laws

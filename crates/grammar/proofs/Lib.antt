@@ -1,0 +1,10 @@
+pub mod Complete
+pub mod Sound
+pub mod Alive
+pub mod Steps
+pub mod Refused
+pub mod Limited
+pub mod Climbs
+pub mod Last
+pub mod Verdict
+pub mod Cases

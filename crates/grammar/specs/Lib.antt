@@ -1,0 +1,10 @@
+pub mod Tree
+pub mod Grammar
+pub mod Reader
+pub mod Theorems
+pub mod Profile
+pub mod Limits
+pub mod Exactly
+pub mod Last
+pub mod Verdict
+pub mod Cases

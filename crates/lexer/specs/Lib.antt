@@ -1,0 +1,4 @@
+pub mod Capped
+pub mod Gaps
+pub mod Left
+pub mod Room

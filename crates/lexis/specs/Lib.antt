@@ -1,0 +1,12 @@
+pub mod Balance
+pub mod Bytes
+pub mod Faults
+pub mod Laws
+pub mod Lines
+pub mod Numbers
+pub mod Reading
+pub mod Runs
+pub mod Scans
+pub mod Texts
+pub mod Tokens
+pub mod Words
