@@ -1,1 +1,2 @@
 pub mod CaseFacts
+pub mod Exactly
