@@ -4,3 +4,4 @@ pub mod Moves
 pub mod Quotes
 pub mod Rooms
 pub mod Spelled
+pub mod Standing

@@ -10,6 +10,7 @@ ghost use Rattle.std.specs.Vec.{listOf};
 ghost use Rattle.stack.specs.Held.{held, room, topOf};
 ghost use Rattle.lexer.specs.Gaps.{Leads, Narrow, is-space, is-gap};
 ghost use Rattle.lexer.specs.Left.{bytes-of, mode-of, spot-of, free, from, left, Steps};
+ghost use Rattle.lexer.specs.Standing.{Stands};
 ghost use Rattle.lexer.specs.Room.{within};
 ghost use Rattle.lexis.specs.Lines.{is-fault, after, closing, tokens};
 ghost use Rattle.lexis.specs.Tokens.{Tok, model, placed};
@@ -89,6 +90,8 @@ impl<'a, 's> Lexer<'a, 's> {
     fn newline(&mut self, at: usize, next: usize) -> Placed<'a>
         ensures token { λ r. ⌜ placed r ≡ (at, Tok.newline) ⌝ }
         ensures left { λ _. ⌜ left (now (self .exit)) ≡ from (now (self .entry)) (record { pos = next; mode = Stage.Fresh 0 }) ⌝ }
+        ensures bytes { λ _. ⌜ bytes-of (now (self .exit)) ≡ bytes-of (now (self .entry)) ⌝ }
+        ensures stands { λ r. ⌜ Stands (bytes-of (now (self .entry))) (r .at) (model (r .token)) ⌝ }
     {
         self.pos = next;
         self.phase = Phase::Fresh;
@@ -105,6 +108,7 @@ impl<'a, 's> Lexer<'a, 's> {
         ensures room { λ _. ⌜ room (now (self .exit) .levels) ≡ room (now (self .entry) .levels) ⌝ }
         ensures bytes { λ _. ⌜ bytes-of (now (self .exit)) ≡ bytes-of (now (self .entry)) ⌝ }
         ensures spot { λ _. ⌜ spot-of (now (self .exit)) ≡ spot-of (now (self .entry)) ⌝ }
+        ensures stands { λ r. ⌜ Stands (bytes-of (now (self .entry))) (r .at) (model (r .token)) ⌝ }
     {
         let _ = self.levels.pop();
         Placed {
@@ -116,7 +120,9 @@ impl<'a, 's> Lexer<'a, 's> {
     // The next token in a line, at `at`.
     fn inner(&mut self, at: usize) -> Placed<'a>
         requires { ⌜ at < length (bytes-of (now self)) ⌝ ∗ ⌜ is-space (class-of (getD (bytes-of (now self)) at 0)) ≡ false ⌝ }
-        ensures { λ r. ⌜ from (now (self .entry)) (record { pos = at; mode = Stage.Inside }) ≡ placed r ∷ left (now (self .exit)) ⌝ }
+        ensures given { λ r. ⌜ from (now (self .entry)) (record { pos = at; mode = Stage.Inside }) ≡ placed r ∷ left (now (self .exit)) ⌝ }
+        ensures bytes { λ _. ⌜ bytes-of (now (self .exit)) ≡ bytes-of (now (self .entry)) ⌝ }
+        ensures stands { λ r. ⌜ Stands (bytes-of (now (self .entry))) (r .at) (model (r .token)) ⌝ }
     {
         let source = self.source;
         if is_line_end(source.bytes[at]) {
@@ -136,7 +142,9 @@ impl<'a, 's> Lexer<'a, 's> {
         requires within { ⌜ at < length (bytes-of (now self)) ⌝ }
         requires token { ⌜ is-gap (Stage.Fresh column) (class-of (getD (bytes-of (now self)) at 0)) ≡ false ⌝ }
         requires leads { ⌜ Leads (bytes-of (now self)) (spot-of (now self)) (record { pos = at; mode = Stage.Fresh column }) ⌝ }
-        ensures { λ r. ⌜ from (now (self .entry)) (record { pos = at; mode = Stage.Fresh column }) ≡ placed r ∷ left (now (self .exit)) ⌝ }
+        ensures given { λ r. ⌜ from (now (self .entry)) (record { pos = at; mode = Stage.Fresh column }) ≡ placed r ∷ left (now (self .exit)) ⌝ }
+        ensures bytes { λ _. ⌜ bytes-of (now (self .exit)) ≡ bytes-of (now (self .entry)) ⌝ }
+        ensures stands { λ r. ⌜ Stands (bytes-of (now (self .entry))) (r .at) (model (r .token)) ⌝ }
     {
         let source = self.source;
         let found = scan_front(&source.bytes[at..]);
@@ -186,7 +194,9 @@ impl<'a, 's> Lexer<'a, 's> {
     // Past the last line: a DEDENT for each open level, then END.
     fn close(&mut self, at: usize) -> Placed<'a>
         requires { ⌜ length (bytes-of (now self)) ≤ at ⌝ }
-        ensures { λ r. ⌜ within (free (now (self .entry))) (closing at (held (now (self .entry) .levels))) ≡ placed r ∷ left (now (self .exit)) ⌝ }
+        ensures given { λ r. ⌜ within (free (now (self .entry))) (closing at (held (now (self .entry) .levels))) ≡ placed r ∷ left (now (self .exit)) ⌝ }
+        ensures bytes { λ _. ⌜ bytes-of (now (self .exit)) ≡ bytes-of (now (self .entry)) ⌝ }
+        ensures stands { λ r. ⌜ Stands (bytes-of (now (self .entry))) (r .at) (model (r .token)) ⌝ }
     {
         self.pos = at;
         match self.levels.pop() {
@@ -209,7 +219,9 @@ impl<'a, 's> Lexer<'a, 's> {
 
     fn at_end(&mut self, spot: Spot) -> Option<Placed<'a>>
         requires { ⌜ length (bytes-of (now self)) ≤ spot .pos ⌝ }
-        ensures { λ r. ⌜ Steps (from (now (self .entry)) spot) r (left (now (self .exit))) ⌝ }
+        ensures given { λ r. ⌜ Steps (from (now (self .entry)) spot) r (left (now (self .exit))) ⌝ }
+        ensures bytes { λ _. ⌜ bytes-of (now (self .exit)) ≡ bytes-of (now (self .entry)) ⌝ }
+        ensures stands { λ r. ⌜ BySome r (Unit {0}) (λ t. Stands (bytes-of (now (self .entry))) (t .at) (model (t .token))) ⌝ }
     {
         match spot.mode {
             Mode::Fresh(_) => Some(self.close(spot.pos)),
@@ -243,7 +255,9 @@ impl<'a, 's> Lexer<'a, 's> {
 
     // The next token, or nothing after END or a fault.
     pub fn next_token(&mut self) -> Option<Placed<'a>>
-        ensures { λ r. ⌜ Steps (left (now (self .entry))) r (left (now (self .exit))) ⌝ }
+        ensures given { λ r. ⌜ Steps (left (now (self .entry))) r (left (now (self .exit))) ⌝ }
+        ensures bytes { λ _. ⌜ bytes-of (now (self .exit)) ≡ bytes-of (now (self .entry)) ⌝ }
+        ensures stands { λ r. ⌜ BySome r (Unit {0}) (λ t. Stands (bytes-of (now (self .entry))) (t .at) (model (t .token))) ⌝ }
     {
         let start = self.spot();
         let spot = past_gap(self.source, start);
