@@ -6,5 +6,4 @@ ghost use Rattle.syntax.specs.Laws.{ReadsExactly};
 pub fn reading_stands()
     ensures exactly { λ _. ⌜ ReadsExactly ⌝ }
     ensures cases { λ _. ⌜ WorkedCases ⌝ }
-{
-}
+{}

@@ -53,4 +53,3 @@ returns-in-Over c =
       bytes = search needs;
       stands = search needs;
     }
-

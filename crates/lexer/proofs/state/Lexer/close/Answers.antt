@@ -48,4 +48,3 @@ returns-in-None c =
       bytes = search needs;
       stands = search needs;
     }
-

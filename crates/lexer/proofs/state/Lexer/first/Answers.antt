@@ -123,4 +123,3 @@ returns-in-Shallower c =
       bytes = search needs;
       stands = search needs;
     }
-

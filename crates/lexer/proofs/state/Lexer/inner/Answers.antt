@@ -45,4 +45,3 @@ returns c =
       bytes = search needs;
       stands = stands (bytes-of (c .args .self .now)) (c .args .at) (c .scan-front-found .result) (found (need.at·returns c .After-scan-front-found));
     }
-

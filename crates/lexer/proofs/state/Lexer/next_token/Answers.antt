@@ -26,4 +26,3 @@ returns-in-Over c =
       bytes = search needs;
       stands = search needs;
     }
-

@@ -1,0 +1,6 @@
+pub mod Kinds
+pub mod Marks
+pub mod Feeds
+pub mod Forms
+pub mod Stops
+pub mod Taking

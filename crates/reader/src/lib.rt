@@ -1,0 +1,7 @@
+// Reading a routine into a table of nodes, by functions that call each other.
+pub mod feeding;
+pub mod feeds;
+pub mod forms;
+pub mod kinds;
+pub mod refusals;
+mod taking;
