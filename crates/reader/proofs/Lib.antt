@@ -1,2 +1,5 @@
 pub mod Fed
 pub mod MarkFacts
+pub mod Storing
+pub mod TypeMoves
+pub mod Refusing

@@ -1,10 +1,11 @@
 -- What the kinds of tokens in the code stand for.
 use mathlib.Core.List.{List}
 use Prim.Native.Nat.{ℕ}
-use Rattle.arena.specs.Trees.{binary-of, literal-of, spelled, string-of}
+use Rattle.arena.specs.Trees.{binary-of, spelled, string-of}
 use Rattle.grammar.specs.Tree as tree
 use Rattle.grammar.specs.Tree.{Token}
 use Rattle.lexis.specs.Faults.{fault-number}
+use Rattle.reader.specs.declared.kinds.Constant.{Constant}
 use Rattle.reader.specs.declared.kinds.Kind.{Kind}
 use Rattle.reader.specs.declared.kinds.Mark.{Mark}
 use Rattle.reader.specs.declared.kinds.Next.{Next}
@@ -34,11 +35,17 @@ mark-of Mark.For = tree.for
 mark-of Mark.In = tree.within
 mark-of Mark.Unused = tree.unused
 
+abbrev pub constant-of : Constant → tree.Literal
+constant-of Constant.None = tree.lit-none
+constant-of Constant.True = tree.lit-true
+constant-of Constant.False = tree.lit-false
+constant-of (Constant.Integer n) = tree.int n
+
 -- of a token at the place p
 abbrev pub kind-model : List ℕ → ℕ → Kind → tree.Kind
 kind-model src p (Kind.Name n) = tree.name (spelled src (record { at = p; len = n }))
 kind-model src p (Kind.Text n) = tree.lit (tree.text (string-of src (record { at = p; len = n })))
-kind-model src p (Kind.Constant l) = tree.lit (literal-of src l)
+kind-model src p (Kind.Constant l) = tree.lit (constant-of l)
 kind-model src p Kind.Dot = tree.dot
 kind-model src p Kind.LeftRound = tree.lparen
 kind-model src p Kind.LeftSquare = tree.lbracket

@@ -4,3 +4,5 @@ pub mod Feeds
 pub mod Forms
 pub mod Stops
 pub mod Taking
+pub mod Keeping
+pub mod Types

@@ -25,16 +25,16 @@ abbrev pub NoMark : Mark → List Token → Stop → Type 0
 NoMark m [] e = stop-of e ≡ incomplete
 NoMark m (t ∷ ts) e = ((s : ℕ → State) → expect (mark-of m) s t ≡ none) × Bars t e
 
--- a mark was taken, or is not there
+-- a mark was taken, or is not there, and nothing was taken
 abbrev pub MarkTold : Mark → List Token → List Token → Result (Unit {0}) Stop → Type 0
 MarkTold m ts us (Ok r) = (q : ℕ) × (ts ≡ at (tree.mark (mark-of m)) q ∷ us)
-MarkTold m ts us (Err e) = NoMark m ts e
+MarkTold m ts us (Err e) = NoMark m ts e × (us ≡ ts)
 
 abbrev pub NoName : List Token → Stop → Type 0
 NoName [] e = stop-of e ≡ incomplete
 NoName (t ∷ ts) e = ((s : ℕ → tree.Text → State) → names s t ≡ none) × Bars t e
 
--- a name was taken, or is not there
+-- a name was taken, or is not there, and nothing was taken
 abbrev pub NameTold : List ℕ → List Token → List Token → Result Stretch Stop → Type 0
 NameTold src ts us (Ok n) = ts ≡ at (tree.name (spelled src n)) (n .at) ∷ us
-NameTold src ts us (Err e) = NoName ts e
+NameTold src ts us (Err e) = NoName ts e × (us ≡ ts)

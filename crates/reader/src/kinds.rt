@@ -9,7 +9,6 @@ ghost use Rattle.lexer.specs.Standing.{Stands};
 ghost use Rattle.reader.specs.Kinds.{kind-model, next-token};
 ghost use Rattle.reader.specs.Marks.{mark-number};
 use arena::nodes::BinaryOperator;
-use arena::nodes::Literal;
 use lexis::faults::Fault;
 use lexis::tokens::Keyword;
 use lexis::tokens::Placed;
@@ -45,12 +44,21 @@ pub enum Mark {
     Unused,
 }
 
+// A constant that is no string.
+#[derive(Clone, Copy)]
+pub enum Constant {
+    None,
+    True,
+    False,
+    Integer(u32),
+}
+
 // A name, and what stands between a string's quotes, by its length: it stands at the token's place, or just after it.
 #[derive(Clone, Copy)]
 pub enum Kind {
     Name(usize),
     Text(usize),
-    Constant(Literal),
+    Constant(Constant),
     Dot,
     LeftRound,
     LeftSquare,
@@ -79,9 +87,9 @@ fn keyword_kind(keyword: Keyword) -> Kind
     ensures { λ r. ⌜ ((src : List ℕ) (p : ℕ) → kind-model src p r ≡ keyword-kind keyword) ⌝ }
 {
     match keyword {
-        Keyword::None => Kind::Constant(Literal::None),
-        Keyword::True => Kind::Constant(Literal::True),
-        Keyword::False => Kind::Constant(Literal::False),
+        Keyword::None => Kind::Constant(Constant::None),
+        Keyword::True => Kind::Constant(Constant::True),
+        Keyword::False => Kind::Constant(Constant::False),
         Keyword::And => Kind::Operator(BinaryOperator::And),
         Keyword::Or => Kind::Operator(BinaryOperator::Or),
         Keyword::Is => Kind::Operator(BinaryOperator::Is),
@@ -152,7 +160,7 @@ pub(crate) fn next_of(placed: Placed<'_>) -> Next
     let kind = match placed.token {
         Token::Name(name) => Kind::Name(name.len()),
         Token::Str(raw) => Kind::Text(raw.len()),
-        Token::Int(value) => Kind::Constant(Literal::Integer(value)),
+        Token::Int(value) => Kind::Constant(Constant::Integer(value)),
         Token::Keyword(keyword) => keyword_kind(keyword),
         Token::Symbol(symbol) => symbol_kind(symbol),
         Token::Newline => Kind::Mark(Mark::Newline),

@@ -5,3 +5,4 @@ pub mod forms;
 pub mod kinds;
 pub mod refusals;
 mod taking;
+mod types;

@@ -1,6 +1,6 @@
 use native.Mathlib.Omega.{arith}
 use mathlib.Core.List.{List, _∷_}
-use mathlib.Core.Path.{_≡_, sym, ap, _∙_, subst}
+use mathlib.Core.Path.{_≡_, refl, sym, ap, _∙_, subst}
 use Prim.Native.Nat.{ℕ}
 use lib.ListN.{drop}
 use borrow.Author.Needs.{needs}
@@ -30,6 +30,6 @@ returns-else-is-mark c =
     let told = c .in-Some .ensures tt in
     let e = unmarked (feed-source f) (n .place) (n .kind) (c .args .mark) (grind arith) in
     record {
-      told = subst (λ ts. NoMark (c .args .mark) ts (c .stop-at .result)) (sym told) (e, c .stop-at .ensures (feed-source f));
+      told = (subst (λ ts. NoMark (c .args .mark) ts (c .stop-at .result)) (sym told) (e, c .stop-at .ensures (feed-source f)), refl);
       source = search needs;
     }
