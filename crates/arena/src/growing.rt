@@ -1,6 +1,8 @@
 // How the table grows, and what it holds.
 ghost use mathlib.Core.List.{[]};
 ghost use mathlib.Core.Path.{_≡_};
+ghost use Prim.Native.Nat.{_<_};
+ghost use lib.ListN.{getD, length};
 ghost use Rattle.std.specs.Vec.{made};
 ghost use Rattle.arena.specs.Tables.{arena-limit, arena-nodes, node-at, pushed};
 use crate::arenas::Arena;
@@ -57,9 +59,16 @@ impl Arena {
         ensures { λ r. ⌜ r ≡ node-at (arena-nodes (now (self .entry))) index ⌝ }
     {
         if index < self.nodes.len() {
-            Some(self.nodes[index])
+            Some(self.stored(index))
         } else {
             None
         }
+    }
+
+    fn stored(&self, index: usize) -> Node
+        requires { ⌜ index < length (arena-nodes (now self)) ⌝ }
+        ensures { λ r. ⌜ r ≡ getD (arena-nodes (now (self .entry))) index r ⌝ }
+    {
+        self.nodes[index]
     }
 }

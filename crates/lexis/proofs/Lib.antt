@@ -1,6 +1,9 @@
 mod Examples
 pub mod Going
+pub mod Leveling
+pub mod Longest
 pub mod Rules
 pub mod Sizes
 pub mod Spelling
 pub mod Stands
+pub mod Values

@@ -9,10 +9,10 @@ use lib.ListN.{length, getD, drop, length-drop}
 use Rattle.std.specs.shelf.Lists.{leading}
 use Rattle.std.proofs.shelf.Lists.{drop-more, getD-drop}
 use Rattle.std.proofs.shelf.Sums.{leading-le-length, leading-drop-yes}
-use Rattle.std.proofs.shelf.Tests.{cond-true, lt-ltb}
+use Rattle.std.proofs.shelf.Tests.{cond-true, cond-false, lt-ltb}
 use Rattle.lexis.specs.Bytes.{class-of}
 use Rattle.lexis.specs.Lines.{Move, in-line, choose, settle, begun, level-of, is-fault, after, widened, comment, fresh-by, inside-by, move, closing, ending, lex, tokens}
-use Rattle.lexis.specs.Runs.{in-run, ends-line}
+use Rattle.lexis.specs.Runs.{in-run, ends-line, starts}
 use Rattle.lexis.specs.Scans.{scan-of}
 use Rattle.lexis.specs.Tokens.{Tok}
 use Rattle.lexis.specs.declared.bytes.Class.{Class}
@@ -30,17 +30,6 @@ never-shallow (suc n) e =
     let f : Level.Shallower ≡ Level.Deeper = e ∙ d in
     let z : _≡_ {A = ℕ} 0 1 = cc in
     omega arith
-
--- a byte of this class begins a token, or none
-abbrev pub starts : Class → Bool
-starts Blank = false
-starts LineEnd = false
-starts Hash = false
-starts Letter = true
-starts Digit = true
-starts Quote = true
-starts Mark = true
-starts Other = true
 
 -- the class of the byte at place p, the token there with its size, and the size of the comment there
 abbrev pub class-at : List ℕ → ℕ → Class
@@ -69,9 +58,9 @@ pub record Kept (s : List ℕ) (Q : Mode → List ℕ → ℕ → List (ℕ × T
   pub token : (ls : List ℕ) (p : ℕ) (ts : List (ℕ × Tok)) → p < length s → starts (class-at s p) ≡ true → is-fault (token-at s p) ≡ false → Q Mode.Inside ls (p + size-at s p) ts → Q Mode.Inside ls p ((p, token-at s p) ∷ ts)
   pub fault : (ls : List ℕ) (p : ℕ) (ts : List (ℕ × Tok)) → p < length s → starts (class-at s p) ≡ true → is-fault (token-at s p) ≡ true → Q Mode.Over ls (p + size-at s p) ts → Q Mode.Inside ls p ((p, token-at s p) ∷ ts)
   pub fault-first : (c : ℕ) (ls : List ℕ) (p : ℕ) (ts : List (ℕ × Tok)) → p < length s → starts (class-at s p) ≡ true → is-fault (token-at s p) ≡ true → Q Mode.Over ls (p + size-at s p) ts → Q (Mode.Fresh c) ls p ((p, token-at s p) ∷ ts)
-  pub same : (c : ℕ) (ls : List ℕ) (p : ℕ) (ts : List (ℕ × Tok)) → p < length s → starts (class-at s p) ≡ true → Level.Same ≡ level-of c ls → Q Mode.Inside ls p ts → Q (Mode.Fresh c) ls p ts
-  pub indent : (c : ℕ) (ls : List ℕ) (p : ℕ) (ts : List (ℕ × Tok)) → p < length s → starts (class-at s p) ≡ true → Level.Deeper ≡ level-of c ls → Q Mode.Inside (c ∷ ls) p ts → Q (Mode.Fresh c) ls p ((p, Tok.indent) ∷ ts)
-  pub dedent : (c l : ℕ) (ls : List ℕ) (p : ℕ) (ts : List (ℕ × Tok)) → p < length s → starts (class-at s p) ≡ true → Level.Shallower ≡ level-of c (l ∷ ls) → Q (Mode.Fresh c) ls p ts → Q (Mode.Fresh c) (l ∷ ls) p ((p, Tok.dedent) ∷ ts)
+  pub same : (c : ℕ) (ls : List ℕ) (p : ℕ) (ts : List (ℕ × Tok)) → p < length s → starts (class-at s p) ≡ true → is-fault (token-at s p) ≡ false → Level.Same ≡ level-of c ls → Q Mode.Inside ls (p + size-at s p) ts → Q (Mode.Fresh c) ls p ((p, token-at s p) ∷ ts)
+  pub indent : (c : ℕ) (ls : List ℕ) (p : ℕ) (ts : List (ℕ × Tok)) → p < length s → starts (class-at s p) ≡ true → is-fault (token-at s p) ≡ false → Level.Deeper ≡ level-of c ls → Q Mode.Inside (c ∷ ls) (p + size-at s p) ts → Q (Mode.Fresh c) ls p ((p, Tok.indent) ∷ (p, token-at s p) ∷ ts)
+  pub dedent : (c l : ℕ) (ls : List ℕ) (p : ℕ) (ts : List (ℕ × Tok)) → p < length s → starts (class-at s p) ≡ true → is-fault (token-at s p) ≡ false → Level.Shallower ≡ level-of c (l ∷ ls) → Q (Mode.Fresh c) ls p ts → Q (Mode.Fresh c) (l ∷ ls) p ((p, Tok.dedent) ∷ ts)
   pub nowhere : (c : ℕ) (ls : List ℕ) (p : ℕ) (ts : List (ℕ × Tok)) → p < length s → starts (class-at s p) ≡ true → is-fault (token-at s p) ≡ false → Level.Nowhere ≡ level-of c ls → Q Mode.Over ls (p + 1) ts → Q (Mode.Fresh c) ls p ((p, Tok.fault Fault.Indentation) ∷ ts)
   pub over : (ls : List ℕ) (p : ℕ) (ts : List (ℕ × Tok)) → p < length s → Q Mode.Over ls (p + 1) ts → Q Mode.Over ls p ts
   pub last-line : (ls : List ℕ) (ts : List (ℕ × Tok)) → Q (Mode.Fresh 0) ls (length s) ts → Q Mode.Inside ls (length s) ((length s, Tok.newline) ∷ ts)
@@ -111,17 +100,20 @@ module _ (s : List ℕ) (Q : Mode → List ℕ → ℕ → List (ℕ × Tok) →
       in-line-back : (ls : List ℕ) → Back Mode.Inside ls (in-line p ls (scan-of r))
       in-line-back ls ts q = line-back (is-fault (token-at s p)) ls refl ts q
 
+      inner : (ls : List ℕ) (ts : List (ℕ × Tok)) → is-fault (token-at s p) ≡ false → Q (after (token-at s p)) ls (p + 1 + (size-at s p - 1)) ts → Q Mode.Inside ls (p + size-at s p) ts
+      inner ls ts f q = to Mode.Inside ls ts _ _ (omega (arith, fit)) (subst (λ (m : Mode). Q m ls (p + 1 + (size-at s p - 1)) ts) (cond-false _ _ _ f) q)
+
       choose-back : (c : ℕ) (k : Level) (ls : List ℕ) (v : Move) → is-fault (token-at s p) ≡ false → k ≡ level-of c ls
           → (Level.Shallower ≡ level-of c ls → (ts : List (ℕ × Tok)) → Q (v .mode) (v .levels) (p + 1 + v .skip) ts → Q (Mode.Fresh c) ls p ((p, Tok.dedent) ∷ (v .out ++ ts)))
           → Back (Mode.Fresh c) ls (choose k p c (scan-of r) ls v)
-      choose-back c Level.Same ls v f e d ts q = K .same c ls p ((p, token-at s p) ∷ ts) h b e (in-line-back ls ts q)
-      choose-back c Level.Deeper ls v f e d ts q = K .indent c ls p ((p, token-at s p) ∷ ts) h b e (in-line-back (c ∷ ls) ts q)
+      choose-back c Level.Same ls v f e d ts q = K .same c ls p ts h b f e (inner ls ts f q)
+      choose-back c Level.Deeper ls v f e d ts q = K .indent c ls p ts h b f e (inner (c ∷ ls) ts f q)
       choose-back c Level.Shallower ls v f e d ts q = d e ts q
       choose-back c Level.Nowhere ls v f e d ts q = K .nowhere c ls p ts h b f e (to Mode.Over ls ts _ _ (add-zero (p + 1)) q)
 
       settle-back : (c : ℕ) (ls : List ℕ) → is-fault (token-at s p) ≡ false → Back (Mode.Fresh c) ls (settle p c (scan-of r) ls)
       settle-back c [] f = choose-back c (level-of c []) [] (in-line p [] (scan-of r)) f refl (λ e ts q. absurd (never-shallow c e))
-      settle-back c (l ∷ ls) f = choose-back c (level-of c (l ∷ ls)) (l ∷ ls) (settle p c (scan-of r) ls) f refl (λ e ts q. K .dedent c l ls p (settle p c (scan-of r) ls .out ++ ts) h b e (settle-back c ls f ts q))
+      settle-back c (l ∷ ls) f = choose-back c (level-of c (l ∷ ls)) (l ∷ ls) (settle p c (scan-of r) ls) f refl (λ e ts q. K .dedent c l ls p (settle p c (scan-of r) ls .out ++ ts) h b f e (settle-back c ls f ts q))
 
       begun-back : (c : ℕ) (ls : List ℕ) (f : Bool) → is-fault (token-at s p) ≡ f → Back (Mode.Fresh c) ls (cond f (in-line p ls (scan-of r)) (settle p c (scan-of r) ls))
       begun-back c ls true e ts q = K .fault-first c ls p ts h b e (to Mode.Over ls ts _ _ (omega (arith, fit)) (subst (λ (m : Mode). Q m ls (p + 1 + (size-at s p - 1)) ts) (cond-true _ _ _ e) q))

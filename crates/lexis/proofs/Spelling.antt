@@ -6,6 +6,7 @@ use Prim.Native.Nat.{ℕ, zero, suc, _+_, _-_, _<_, _≤_}
 use native.Mathlib.Omega.{arith}
 use lib.Dec.{eqb, ltb, leb}
 use lib.ListN.{length, getD, take, drop}
+use Rattle.std.specs.Iters.{folded}
 use Rattle.std.specs.Options.{isSome}
 use Rattle.std.specs.declared.option.Option.{Option}
 use Rattle.std.specs.declared.option.Option.the-variants.{Some, None}
@@ -16,10 +17,10 @@ use Rattle.std.proofs.shelf.Tests.{true≢false, and-from, and-parts, eqb-true}
 use Rattle.lexis.specs.Bytes.{class-of, is-blank, is-line-end, is-letter, is-digit, is-mark}
 use Rattle.lexis.specs.Lines.{is-fault}
 use Rattle.lexis.specs.Numbers.{number-of}
-use Rattle.lexis.specs.Reading.{every, Writes}
+use Rattle.lexis.specs.Reading.{every, Writes, has-bytes}
 use Rattle.lexis.specs.Runs.{in-run}
 use Rattle.lexis.specs.Scans.{scan-of, scan-by, named, numbered, texted, marked}
-use Rattle.lexis.specs.Texts.{escape-of, longer-by, text-step, text-end, ends}
+use Rattle.lexis.specs.Texts.{escape-of, longer-by, text-step, text-end, ends, is-inside, is-text}
 use Rattle.lexis.specs.Tokens.{Tok}
 use Rattle.lexis.specs.Words.{beside, doubles, singles, either, symbol-of, symbol-bytes, spelled, keywords, keyword-of, first-spelled}
 use Rattle.lexis.specs.declared.bytes.Class.{Class}
@@ -30,7 +31,7 @@ use Rattle.lexis.specs.declared.tokens.Keyword.{Keyword}
 use Rattle.lexis.specs.declared.tokens.Symbol.{Symbol}
 use Rattle.lexis.proofs.Sizes.{scan-size, none-ends}
 
-same-bytes : (xs ys : List ℕ) → sameBytes xs ys ≡ true → xs ≡ ys
+pub same-bytes : (xs ys : List ℕ) → sameBytes xs ys ≡ true → xs ≡ ys
 same-bytes [] [] e = refl
 same-bytes [] (y ∷ ys) e = cc
 same-bytes (x ∷ xs) [] e = cc
@@ -71,7 +72,7 @@ number-writes u (Some v) e h f = (h, e)
 number-writes u None e h f = absurd (true≢false f)
 
 -- strings
-abbrev Open : Quoted → Type 0
+abbrev pub Open : Quoted → Type 0
 Open (Quoted.Plain v) = Unit {0}
 Open (Quoted.Escaped v) = Unit {0}
 Open Quoted.Closed = ⊥
@@ -98,6 +99,9 @@ closes-at Quoted.Bad b o e = absurd o
 abbrev Lies : ℕ → List ℕ → ℕ → Type 0
 Lies p bs e = (p ≤ e) × (e - p < length bs) × (getD bs (e - p) 0 ≡ 34)
 
+abbrev Held : Quoted → ℕ → List ℕ → ℕ → Type 0
+Held q p bs e = is-inside (folded text-step q (take (e - p) bs)) ≡ true
+
 lies-on : (p b : ℕ) (bs : List ℕ) (e : ℕ) → Lies (p + 1) bs e → Lies p (b ∷ bs) e
 lies-on p b bs e l =
     let n : e - p ≡ suc (e - (p + 1)) = omega (arith, l .0) in
@@ -116,20 +120,51 @@ quoted : (q : Quoted) (p : ℕ) (bs : List ℕ) (e : ℕ) → Open q → text-en
 quoted q p [] e o h = let z : _≡_ {A = ℕ} 0 1 = cc in absurd (omega arith)
 quoted q p (b ∷ bs) e o h = quoted-step q (text-step q b) p b bs e o refl (quoted (text-step q b) (p + 1) bs e) h
 
+escaped-never : (t y : Bool) (v : ℕ) → cond t (cond y (Quoted.Plain (v + 1)) Quoted.Bad) Quoted.Bad ≡ Quoted.Closed → false ≡ true
+escaped-never true true v e = cc
+escaped-never true false v e = cc
+escaped-never false y v e = cc
+
+closes-inside : (q : Quoted) (b : ℕ) → Open q → text-step q b ≡ Quoted.Closed → is-inside q ≡ true
+closes-inside (Quoted.Plain v) b o e = refl
+closes-inside (Quoted.Escaped v) b o e = escaped-never (isSome (escape-of b)) (ltb v 255) v e
+closes-inside Quoted.Closed b o e = absurd o
+closes-inside Quoted.Bad b o e = absurd o
+
+inside-on : (q r : Quoted) (p b : ℕ) (bs : List ℕ) (e : ℕ) → text-step q b ≡ r → p + 1 ≤ e → Held r (p + 1) bs e → Held q p (b ∷ bs) e
+inside-on q r p b bs e s h x =
+    let n : e - p ≡ suc (e - (p + 1)) = omega arith in
+    ap (λ (j : ℕ). is-inside (folded text-step q (take j (b ∷ bs)))) n ∙ ap (λ (k : Quoted). is-inside (folded text-step k (take (e - (p + 1)) bs))) s ∙ x
+
+inside-step : (q r : Quoted) (p b : ℕ) (bs : List ℕ) (e : ℕ) → Open q → text-step q b ≡ r → (Open r → text-end r (p + 1) bs ≡ Some e → Held r (p + 1) bs e) → ends r p (text-end r (p + 1) bs) ≡ Some e → Held q p (b ∷ bs) e
+inside-step q (Quoted.Plain v) p b bs e o s more h = inside-on q (Quoted.Plain v) p b bs e s (quoted (Quoted.Plain v) (p + 1) bs e tt h .0) (more tt h)
+inside-step q (Quoted.Escaped v) p b bs e o s more h = inside-on q (Quoted.Escaped v) p b bs e s (quoted (Quoted.Escaped v) (p + 1) bs e tt h .0) (more tt h)
+inside-step q Quoted.Closed p b bs e o s more h =
+    let is : p ≡ e = cc in
+    let none : e - p ≡ 0 = omega arith in
+    ap (λ (j : ℕ). is-inside (folded text-step q (take j (b ∷ bs)))) none ∙ closes-inside q b o s
+inside-step q Quoted.Bad p b bs e o s more h = let z : _≡_ {A = ℕ} 0 1 = cc in absurd (omega arith)
+
+inside : (q : Quoted) (p : ℕ) (bs : List ℕ) (e : ℕ) → Open q → text-end q p bs ≡ Some e → Held q p bs e
+inside q p [] e o h = let z : _≡_ {A = ℕ} 0 1 = cc in absurd (omega arith)
+inside q p (b ∷ bs) e o h = inside-step q (text-step q b) p b bs e o refl (inside (text-step q b) (p + 1) bs e) h
+
 text-writes : (x : ℕ) (xs : List ℕ) (o : Option ℕ) → x ≡ 34 → text-end (Quoted.Plain 0) 1 xs ≡ o → is-fault (texted (x ∷ xs) o .0) ≡ false → Writes (texted (x ∷ xs) o .0) (take (texted (x ∷ xs) o .1) (x ∷ xs))
 text-writes x xs (Some e) is h f =
     let l = quoted (Quoted.Plain 0) 1 xs e tt h in
-    let n : e + 1 ≡ suc (e - 1 + 1) = omega (arith, l .0) in
-    ap (λ (j : ℕ). take j (x ∷ xs)) n ∙ ap (λ (u : List ℕ). x ∷ u) (take-more xs (e - 1) 0 (l .1))
-    ∙ (λ i. is i ∷ (take (e - 1) xs ++ l .2 i ∷ []))
+    let n : e + 1 ≡ suc (e - 1 + 1) = omega (arith, l .0) in (
+      ap (λ (j : ℕ). take j (x ∷ xs)) n ∙ ap (λ (u : List ℕ). x ∷ u) (take-more xs (e - 1) 0 (l .1))
+          ∙ (λ i. is i ∷ (take (e - 1) xs ++ l .2 i ∷ [])),
+      inside (Quoted.Plain 0) 1 xs e tt h,
+    )
 text-writes x xs None is h f = absurd (true≢false f)
 
 -- symbols
-abbrev Right : List (List ℕ × (Symbol × ℕ)) → Type 0
+abbrev pub Right : List (List ℕ × (Symbol × ℕ)) → Type 0
 Right [] = Unit {0}
 Right (e ∷ es) = (symbol-bytes (e .1 .0) ≡ e .0) × (e .1 .1 ≡ length (e .0)) × Right es
 
-abbrev Found : List ℕ → Symbol × ℕ → Type 0
+abbrev pub Found : List ℕ → Symbol × ℕ → Type 0
 Found w k = (symbol-bytes (k .0) ≡ w) × (k .1 ≡ length w)
 
 beside-step : (e : List ℕ × (Symbol × ℕ)) (es : List (List ℕ × (Symbol × ℕ))) (w : List ℕ) (k : Symbol × ℕ) (t : Bool) → sameBytes w (e .0) ≡ t → Found (e .0) (e .1) → (beside es w ≡ Some k → Found w k) → cond t (Some (e .1)) (beside es w) ≡ Some k → Found w k
@@ -139,14 +174,14 @@ beside-step e es w k true s here more h =
     subst (λ (j : Symbol × ℕ). Found w j) is (here .0 ∙ same, here .1 ∙ ap length same)
 beside-step e es w k false s here more h = more h
 
-beside-is : (es : List (List ℕ × (Symbol × ℕ))) (w : List ℕ) (k : Symbol × ℕ) → Right es → beside es w ≡ Some k → Found w k
+pub beside-is : (es : List (List ℕ × (Symbol × ℕ))) (w : List ℕ) (k : Symbol × ℕ) → Right es → beside es w ≡ Some k → Found w k
 beside-is [] w k g h = let z : _≡_ {A = ℕ} 0 1 = cc in absurd (omega arith)
 beside-is (e ∷ es) w k g h = beside-step e es w k (sameBytes w (e .0)) refl (g .0, g .1) (beside-is es w k (g .2)) h
 
-right-doubles : Right doubles
+pub right-doubles : Right doubles
 right-doubles = (refl, refl, (refl, refl, (refl, refl, (refl, refl, (refl, refl, (refl, refl, tt))))))
 
-right-singles : Right singles
+pub right-singles : Right singles
 right-singles = (refl, refl, (refl, refl, (refl, refl, (refl, refl, (refl, refl, (refl, refl, (refl, refl, (refl, refl, (refl, refl, (refl, refl, (refl, refl, (refl, refl, (refl, refl, (refl, refl, tt))))))))))))))
 
 double-writes : (x : ℕ) (xs : List ℕ) (k : Symbol × ℕ) → beside doubles (x ∷ getD xs 0 0 ∷ []) ≡ Some k → take (k .1) (x ∷ xs) ≡ symbol-bytes (k .0)
@@ -182,7 +217,7 @@ picks-quote false false false false false true g h = refl
 picks-quote false false false false false false true h = cc
 picks-quote false false false false false false false h = cc
 
-quote-byte : (x : ℕ) → class-of x ≡ Quote → x ≡ 34
+pub quote-byte : (x : ℕ) → class-of x ≡ Quote → x ≡ 34
 quote-byte x e = eqb-true x 34 (picks-quote (is-blank x) (is-line-end x) (eqb x 35) (is-letter x) (is-digit x) (eqb x 34) (is-mark x) e)
 
 class-writes : (x : ℕ) (xs : List ℕ) (k : Class) → class-of x ≡ k → 1 ≤ scan-by k (x ∷ xs) .1 → is-fault (scan-by k (x ∷ xs) .0) ≡ false → Writes (scan-by k (x ∷ xs) .0) (take (scan-by k (x ∷ xs) .1) (x ∷ xs))
@@ -204,3 +239,33 @@ class-writes x xs Other e n f = absurd (true≢false f)
 pub scan-writes : (r : List ℕ) → 0 < length r → is-fault (scan-of r .0) ≡ false → Writes (scan-of r .0) (take (scan-of r .1) r)
 scan-writes [] h f = absurd (omega arith)
 scan-writes (x ∷ xs) h f = class-writes x xs (class-of x) refl (scan-size (x ∷ xs) h .0) f
+
+-- a scanned token that is no fault has bytes
+named-bytes : (o : Option Keyword) (w : List ℕ) → has-bytes (named o w) ≡ true
+named-bytes (Some k) w = refl
+named-bytes None w = refl
+
+numbered-bytes : (o : Option ℕ) → is-fault (numbered o) ≡ false → has-bytes (numbered o) ≡ true
+numbered-bytes (Some v) f = refl
+numbered-bytes None f = absurd (true≢false f)
+
+texted-bytes : (r : List ℕ) (o : Option ℕ) → is-fault (texted r o .0) ≡ false → has-bytes (texted r o .0) ≡ true
+texted-bytes r (Some e) f = refl
+texted-bytes r None f = absurd (true≢false f)
+
+marked-bytes : (o : Option (Symbol × ℕ)) → is-fault (marked o .0) ≡ false → has-bytes (marked o .0) ≡ true
+marked-bytes (Some o) f = refl
+marked-bytes None f = absurd (true≢false f)
+
+class-bytes : (k : Class) (r : List ℕ) → is-fault (scan-by k r .0) ≡ false → has-bytes (scan-by k r .0) ≡ true
+class-bytes Blank r f = absurd (true≢false f)
+class-bytes LineEnd r f = absurd (true≢false f)
+class-bytes Hash r f = absurd (true≢false f)
+class-bytes Letter r f = named-bytes _ _
+class-bytes Digit r f = numbered-bytes _ f
+class-bytes Quote r f = texted-bytes r _ f
+class-bytes Mark r f = marked-bytes _ f
+class-bytes Other r f = absurd (true≢false f)
+
+pub scan-bytes : (r : List ℕ) → is-fault (scan-of r .0) ≡ false → has-bytes (scan-of r .0) ≡ true
+scan-bytes r f = class-bytes (class-of (getD r 0 0)) r f

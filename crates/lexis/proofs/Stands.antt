@@ -5,32 +5,25 @@ use mathlib.Core.List.{List, [], _∷_, _++_}
 use Prim.Native.Nat.{ℕ, zero, suc, _+_, _-_, _<_, _≤_}
 use native.Mathlib.Nat.{add-zero}
 use native.Mathlib.Omega.{arith}
+use lib.Dec.{eqb, ltb}
 use lib.ListN.{length, getD, take, drop, length-drop}
-use Rattle.std.specs.declared.option.Option.{Option}
-use Rattle.std.specs.declared.option.Option.the-variants.{Some, None}
 use Rattle.std.proofs.shelf.Tests.{true≢false}
 use Rattle.lexis.specs.Balance.{Opens, Balanced}
 use Rattle.lexis.specs.Bytes.{class-of}
 use Rattle.lexis.specs.Laws.{Lawful, Tokens-stand}
-use Rattle.lexis.specs.Lines.{is-fault, tokens}
-use Rattle.lexis.specs.Reading.{Writes, has-bytes, Gap, Follows, Reads, Ascends}
-use Rattle.lexis.specs.Scans.{scan-of, scan-by, named, numbered, texted, marked}
+use Rattle.lexis.specs.Lines.{is-fault, is-open, top-level, tokens}
+use Rattle.lexis.specs.Reading.{Writes, has-bytes, Best, Gap, Whole, There, Lies, first-place, fault-next, begins-line, Follows, Reads, Ascends}
+use Rattle.lexis.specs.Runs.{starts}
+use Rattle.lexis.specs.Scans.{scan-of}
 use Rattle.lexis.specs.Tokens.{Tok}
-use Rattle.lexis.specs.declared.bytes.Class.{Class}
-use Rattle.lexis.specs.declared.bytes.Class.the-variants.{Blank, LineEnd, Hash, Letter, Digit, Quote, Mark, Other}
+use Rattle.lexis.specs.declared.bytes.Class.the-variants.{Blank, LineEnd, Hash}
 use Rattle.lexis.specs.declared.faults.Fault.{Fault}
 use Rattle.lexis.specs.declared.lines.Mode.{Mode}
-use Rattle.lexis.specs.declared.tokens.Keyword.{Keyword}
-use Rattle.lexis.specs.declared.tokens.Symbol.{Symbol}
-use Rattle.lexis.proofs.Rules.{Kept, kept-all, byte-at, token-at, size-at, comment-at}
+use Rattle.lexis.proofs.Longest.{scan-best}
+use Rattle.lexis.proofs.Rules.{Kept, kept-all, byte-at, class-at, token-at, size-at, comment-at}
 use Rattle.lexis.proofs.Sizes.{Fit, scan-size}
-use Rattle.lexis.proofs.Spelling.{scan-writes}
-
--- after a fault nothing comes
-abbrev Unless-over : (ℕ → List (ℕ × Tok) → Type 0) → Mode → ℕ → List (ℕ × Tok) → Type 0
-Unless-over P (Mode.Fresh c) p ts = P p ts
-Unless-over P Mode.Inside p ts = P p ts
-Unless-over P Mode.Over p ts = ts ≡ []
+use Rattle.lexis.proofs.Leveling.{leveled, shallower-open, picks-nowhere}
+use Rattle.lexis.proofs.Spelling.{scan-writes, scan-bytes}
 
 fault-writes : (t : Tok) (u : List ℕ) → is-fault t ≡ true → Writes t u
 fault-writes (Tok.name w) u e = absurd (true≢false (sym e))
@@ -44,59 +37,162 @@ fault-writes Tok.dedent u e = absurd (true≢false (sym e))
 fault-writes Tok.done u e = absurd (true≢false (sym e))
 fault-writes (Tok.fault f) u e = tt
 
+best-whole : (t : Tok) (m : ℕ) (r : List ℕ) → has-bytes t ≡ true → Best t m r → Whole t m r
+best-whole (Tok.name w) m r e b = b
+best-whole (Tok.str w) m r e b = b
+best-whole (Tok.int n) m r e b = b
+best-whole (Tok.keyword k) m r e b = b
+best-whole (Tok.symbol o) m r e b = b
+best-whole Tok.newline m r e b = absurd (true≢false (sym e))
+best-whole Tok.indent m r e b = absurd (true≢false (sym e))
+best-whole Tok.dedent m r e b = absurd (true≢false (sym e))
+best-whole Tok.done m r e b = absurd (true≢false (sym e))
+best-whole (Tok.fault f) m r e b = absurd (true≢false (sym e))
+
+-- a token with bytes, or a fault, lies where it lies, and a line has begun past the first of these
+bytes-begin : (t : Tok) (first : Bool) → has-bytes t ≡ true → begins-line t first ≡ false
+bytes-begin (Tok.name w) first e = refl
+bytes-begin (Tok.str w) first e = refl
+bytes-begin (Tok.int n) first e = refl
+bytes-begin (Tok.keyword k) first e = refl
+bytes-begin (Tok.symbol o) first e = refl
+bytes-begin Tok.newline first e = absurd (true≢false (sym e))
+bytes-begin Tok.indent first e = absurd (true≢false (sym e))
+bytes-begin Tok.dedent first e = absurd (true≢false (sym e))
+bytes-begin Tok.done first e = absurd (true≢false (sym e))
+bytes-begin (Tok.fault f) first e = absurd (true≢false (sym e))
+
 module _ (s : List ℕ) where
+  bytes-lie : (p : ℕ) (t : Tok) (ts : List (ℕ × Tok)) → has-bytes t ≡ true → Lies s p t ts
+  bytes-lie p (Tok.name w) ts e = tt
+  bytes-lie p (Tok.str w) ts e = tt
+  bytes-lie p (Tok.int n) ts e = tt
+  bytes-lie p (Tok.keyword k) ts e = tt
+  bytes-lie p (Tok.symbol o) ts e = tt
+  bytes-lie p Tok.newline ts e = absurd (true≢false (sym e))
+  bytes-lie p Tok.indent ts e = absurd (true≢false (sym e))
+  bytes-lie p Tok.dedent ts e = absurd (true≢false (sym e))
+  bytes-lie p Tok.done ts e = absurd (true≢false (sym e))
+  bytes-lie p (Tok.fault f) ts e = absurd (true≢false (sym e))
+
+  fault-lies : (p : ℕ) (t : Tok) (ts : List (ℕ × Tok)) → (p < length s) × (starts (class-of (getD s p 0)) ≡ true) → is-fault t ≡ true → Lies s p t ts
+  fault-lies p (Tok.name w) ts l e = absurd (true≢false (sym e))
+  fault-lies p (Tok.str w) ts l e = absurd (true≢false (sym e))
+  fault-lies p (Tok.int n) ts l e = absurd (true≢false (sym e))
+  fault-lies p (Tok.keyword k) ts l e = absurd (true≢false (sym e))
+  fault-lies p (Tok.symbol o) ts l e = absurd (true≢false (sym e))
+  fault-lies p Tok.newline ts l e = absurd (true≢false (sym e))
+  fault-lies p Tok.indent ts l e = absurd (true≢false (sym e))
+  fault-lies p Tok.dedent ts l e = absurd (true≢false (sym e))
+  fault-lies p Tok.done ts l e = absurd (true≢false (sym e))
+  fault-lies p (Tok.fault f) ts l e = l
+
   fit : (p : ℕ) → p < length s → Fit (length (drop p s)) (scan-of (drop p s))
   fit p h = scan-size (drop p s) (omega (arith, length-drop p s))
 
-  widen : (p r : ℕ) → p ≤ r → ((q : ℕ) → Gap s r q → Gap s p q) → (ts : List (ℕ × Tok)) → Reads s r ts → Reads s p ts
-  widen p r h g [] x = tt
-  widen p r h g (t ∷ ts) x = record { size = x .size; gap = g (t .0) (x .gap); past = omega (arith, x .past); writes = x .writes; solid = x .solid; within = x .within; then = x .then }
+  widen : (first : Bool) (p r : ℕ) → p ≤ r → ((q : ℕ) → Gap s first r q → Gap s first p q) → (ts : List (ℕ × Tok)) → Reads s first r ts → Reads s first p ts
+  widen first p r h g [] x = tt
+  widen first p r h g (t ∷ ts) x = record { size = x .size; gap = g (t .0) (x .gap); past = omega (arith, x .past); writes = x .writes; best = x .best; lies = x .lies; solid = x .solid; within = x .within; then = x .then }
 
-  stand : (p n : ℕ) (t : Tok) (ts : List (ℕ × Tok)) → Writes t (take n (drop p s)) → p + n ≤ length s → (has-bytes t ≡ true → 1 ≤ n) → Reads s (p + n) ts → Reads s p ((p, t) ∷ ts)
-  stand p n t ts w h b x = record { size = n; gap = Gap.none; past = omega arith; writes = w; solid = b; within = h; then = x }
+  bare : (first : Bool) (p : ℕ) (t : Tok) (ts : List (ℕ × Tok)) → p ≤ length s → Writes t [] → Best t 0 (drop p s) → Lies s p t ts → has-bytes t ≡ false → Reads s (begins-line t first) p ts → Reads s first p ((p, t) ∷ ts)
+  bare first p t ts h w f l b x = record {
+    size = 0;
+    gap = Gap.none;
+    past = omega arith;
+    writes = w;
+    best = f;
+    lies = l;
+    solid = λ e. absurd (true≢false (sym e ∙ b));
+    within = omega arith;
+    then = subst (λ (j : ℕ). Reads s (begins-line t first) j ts) (sym (add-zero p)) x;
+  }
 
-  bare : (p : ℕ) (t : Tok) (ts : List (ℕ × Tok)) → p ≤ length s → Writes t [] → has-bytes t ≡ false → Reads s p ts → Reads s p ((p, t) ∷ ts)
-  bare p t ts h w b x = stand p 0 t ts w (omega arith) (λ e. absurd (true≢false (sym e ∙ b))) (subst (λ (j : ℕ). Reads s j ts) (sym (add-zero p)) x)
+  stands : (first : Bool) (p : ℕ) (ts : List (ℕ × Tok)) → p < length s → Writes (token-at s p) (take (size-at s p) (drop p s)) → Lies s p (token-at s p) ts → Reads s (begins-line (token-at s p) first) (p + size-at s p) ts → Reads s first p ((p, token-at s p) ∷ ts)
+  stands first p ts h w l x = record {
+    size = size-at s p;
+    gap = Gap.none;
+    past = omega arith;
+    writes = w;
+    best = scan-best (drop p s) (omega (arith, length-drop p s));
+    lies = l;
+    solid = λ e. fit p h .0;
+    within = omega (arith, fit p h, length-drop p s);
+    then = x;
+  }
 
-  scanned : (p : ℕ) (ts : List (ℕ × Tok)) → p < length s → Writes (token-at s p) (take (size-at s p) (drop p s)) → Reads s (p + size-at s p) ts → Reads s p ((p, token-at s p) ∷ ts)
-  scanned p ts h w x = stand p (size-at s p) (token-at s p) ts w (omega (arith, fit p h, length-drop p s)) (λ e. fit p h .0) x
+  lie : (p : ℕ) → p < length s → starts (class-at s p) ≡ true → (p < length s) × (starts (class-of (getD s p 0)) ≡ true)
+  lie p h b = (h, ap (λ (x : ℕ). starts (class-of x)) (sym (byte-at s p)) ∙ b)
 
-  blanks : (p : ℕ) (ts : List (ℕ × Tok)) → class-of (getD (drop p s) 0 0) ≡ Blank → Reads s (p + 1) ts → Reads s p ts
-  blanks p ts e x = widen p (p + 1) (omega arith) (λ q g. Gap.blank (ap class-of (sym (byte-at s p)) ∙ e) g) ts x
+  scanned : (first : Bool) (p : ℕ) (ts : List (ℕ × Tok)) → p < length s → is-fault (token-at s p) ≡ false → Reads s false (p + size-at s p) ts → Reads s first p ((p, token-at s p) ∷ ts)
+  scanned first p ts h f x =
+      let b = scan-bytes (drop p s) f in
+      stands first p ts h (scan-writes (drop p s) (omega (arith, length-drop p s)) f) (bytes-lie p (token-at s p) ts b) (subst (λ (z : Bool). Reads s z (p + size-at s p) ts) (sym (bytes-begin (token-at s p) first b)) x)
 
-  line-ends : (p : ℕ) (ts : List (ℕ × Tok)) → class-of (getD (drop p s) 0 0) ≡ LineEnd → Reads s (p + 1) ts → Reads s p ts
-  line-ends p ts e x = widen p (p + 1) (omega arith) (λ q g. Gap.line-end (ap class-of (sym (byte-at s p)) ∙ e) g) ts x
+  faulty : (first : Bool) (p : ℕ) (ts : List (ℕ × Tok)) → p < length s → starts (class-at s p) ≡ true → is-fault (token-at s p) ≡ true → ts ≡ [] → Reads s first p ((p, token-at s p) ∷ ts)
+  faulty first p ts h b f x = stands first p ts h (fault-writes (token-at s p) _ f) (fault-lies p (token-at s p) ts (lie p h b) f) (subst (Reads s (begins-line (token-at s p) first) (p + size-at s p)) (sym x) tt)
 
-  remarks : (p : ℕ) (ts : List (ℕ × Tok)) → class-of (getD (drop p s) 0 0) ≡ Hash → Reads s (p + comment-at s p) ts → Reads s p ts
-  remarks p ts e x = widen p (p + comment-at s p) (omega arith) (λ q g. Gap.remark (ap class-of (sym (byte-at s p)) ∙ e) g) ts x
+  blanks : (first : Bool) (p : ℕ) (ts : List (ℕ × Tok)) → class-at s p ≡ Blank → Reads s first (p + 1) ts → Reads s first p ts
+  blanks first p ts e x = widen first p (p + 1) (omega arith) (λ q g. Gap.blank (ap class-of (sym (byte-at s p)) ∙ e) g) ts x
 
-  from-none : (p : ℕ) (ts : List (ℕ × Tok)) → ts ≡ [] → Reads s p ts
-  from-none p ts e = subst (Reads s p) (sym e) tt
+  line-ends : (p : ℕ) (ts : List (ℕ × Tok)) → class-at s p ≡ LineEnd → Reads s true (p + 1) ts → Reads s true p ts
+  line-ends p ts e x = widen true p (p + 1) (omega arith) (λ q g. Gap.line-end refl (ap class-of (sym (byte-at s p)) ∙ e) g) ts x
 
-  reads-kept : Kept s (λ m ls p ts. Unless-over (Reads s) m p ts)
+  remarks : (first : Bool) (p : ℕ) (ts : List (ℕ × Tok)) → class-at s p ≡ Hash → Reads s first (p + comment-at s p) ts → Reads s first p ts
+  remarks first p ts e x = widen first p (p + comment-at s p) (omega arith) (λ q g. Gap.remark (ap class-of (sym (byte-at s p)) ∙ e) g) ts x
+
+  -- where a token begins, or at the end, the first of the tokens lies
+  abbrev Starting : ℕ → List ℕ → ℕ → Type 0
+  Starting c ls p = (starts (class-at s p) ≡ true) × (is-fault (token-at s p) ≡ false) × (is-open c ls ≡ true)
+
+  abbrev At : ℕ → List ℕ → ℕ → List (ℕ × Tok) → Type 0
+  At c ls p ts = (p < length s → Starting c ls p) → (first-place ts p ≡ p) × (fault-next ts ≡ false)
+
+  elsewhere : (c : ℕ) (ls : List ℕ) (p : ℕ) (ts : List (ℕ × Tok)) → p < length s → starts (class-at s p) ≡ false → At c ls p ts
+  elsewhere c ls p ts h e k = absurd (true≢false (sym (k h .0) ∙ e))
+
+  there : (p : ℕ) → p < length s → is-fault (token-at s p) ≡ false → There (drop p s)
+  there p h f =
+      let long : 0 < length (drop p s) = omega (arith, length-drop p s) in
+      let b = scan-bytes (drop p s) f in
+      record {
+        token = token-at s p;
+        size = size-at s p;
+        bytes = b;
+        some = fit p h .0;
+        within = fit p h .1;
+        writes = scan-writes (drop p s) long f;
+        whole = best-whole (token-at s p) (size-at s p) (drop p s) b (scan-best (drop p s) long);
+      }
+
+  abbrev Q : Mode → List ℕ → ℕ → List (ℕ × Tok) → Type 0
+  Q (Mode.Fresh c) ls p ts = Reads s true p ts × At c ls p ts
+  Q Mode.Inside ls p ts = Reads s false p ts
+  Q Mode.Over ls p ts = ts ≡ []
+
+  reads-kept : Kept s Q
   reads-kept = record {
-    blank = λ c ls p ts h e x. blanks p ts e x;
-    blank-inside = λ ls p ts h e x. blanks p ts e x;
-    empty-line = λ c ls p ts h e x. line-ends p ts e x;
-    newline = λ ls p ts h e x. bare p Tok.newline ts (omega arith) refl refl (line-ends p ts e x);
-    remark = λ c ls p ts h e f x. remarks p ts e x;
-    remark-inside = λ ls p ts h e f x. remarks p ts e x;
-    token = λ ls p ts h b f x. scanned p ts h (scan-writes (drop p s) (omega (arith, length-drop p s)) f) x;
-    fault = λ ls p ts h b f x. scanned p ts h (fault-writes (token-at s p) _ f) (from-none (p + size-at s p) ts x);
-    fault-first = λ c ls p ts h b f x. scanned p ts h (fault-writes (token-at s p) _ f) (from-none (p + size-at s p) ts x);
-    same = λ c ls p ts h b e x. x;
-    indent = λ c ls p ts h b e x. bare p Tok.indent ts (omega arith) refl refl x;
-    dedent = λ c l ls p ts h b e x. bare p Tok.dedent ts (omega arith) refl refl x;
-    nowhere = λ c ls p ts h b f e x. bare p (Tok.fault Fault.Indentation) ts (omega arith) tt refl (from-none p ts x);
+    blank = λ c ls p ts h e x. (blanks true p ts e (x .0), elsewhere c ls p ts h (ap starts e));
+    blank-inside = λ ls p ts h e x. blanks false p ts e x;
+    empty-line = λ c ls p ts h e x. (line-ends p ts e (x .0), elsewhere c ls p ts h (ap starts e));
+    newline = λ ls p ts h e x. bare false p Tok.newline ts (omega arith) refl tt (λ _. ap class-of (sym (byte-at s p)) ∙ e) refl (line-ends p ts e (x .0));
+    remark = λ c ls p ts h e f x. (remarks true p ts e (x .0), elsewhere c ls p ts h (ap starts e));
+    remark-inside = λ ls p ts h e f x. remarks false p ts e x;
+    token = λ ls p ts h b f x. scanned false p ts h f x;
+    fault = λ ls p ts h b f x. faulty false p ts h b f x;
+    fault-first = λ c ls p ts h b f x. (faulty true p ts h b f x, λ k. absurd (true≢false (sym f ∙ k h .1)));
+    same = λ c ls p ts h b f e x. (scanned true p ts h f x, λ _. (refl, f));
+    indent = λ c ls p ts h b f e x. (bare true p Tok.indent ((p, token-at s p) ∷ ts) (omega arith) refl tt (h, refl, f) refl (scanned true p ts h f x), λ _. (refl, refl));
+    dedent = λ c l ls p ts h b f e x. (bare true p Tok.dedent ts (omega arith) refl tt (x .1 (λ _. (b, f, shallower-open c l ls e))) refl (x .0), λ _. (refl, refl));
+    nowhere = λ c ls p ts h b f e x. (bare true p (Tok.fault Fault.Indentation) ts (omega arith) tt (there p h f) (lie p h b) refl (subst (Reads s true p) (sym x) tt), λ k. absurd (true≢false (sym (k h .2) ∙ picks-nowhere (ltb (top-level ls) c) (eqb (top-level ls) c) (is-open c ls) e .1)));
     over = λ ls p ts h x. x;
-    last-line = λ ls ts x. bare (length s) Tok.newline ts (omega arith) refl refl x;
-    last-dedent = λ c l ls ts x. bare (length s) Tok.dedent ts (omega arith) refl refl x;
-    done = λ c. bare (length s) Tok.done [] (omega arith) refl refl tt;
+    last-line = λ ls ts x. bare false (length s) Tok.newline ts (omega arith) refl tt (λ h. absurd (omega arith)) refl (x .0);
+    last-dedent = λ c l ls ts x. (bare true (length s) Tok.dedent ts (omega arith) refl tt (x .1 (λ h. absurd (omega arith))) refl (x .0), λ _. (refl, refl));
+    done = λ c. (bare true (length s) Tok.done [] (omega arith) refl tt refl refl tt, λ _. (refl, refl));
     nothing = λ ls. refl;
   }
 
-  pub reads : Reads s 0 (tokens s)
-  reads = kept-all s (λ m ls p ts. Unless-over (Reads s) m p ts) reads-kept
+  pub reads : Reads s true 0 (tokens s)
+  reads = kept-all s Q reads-kept .0
 
 -- places
 lower : (a b : ℕ) (ts : List (ℕ × Tok)) → a ≤ b → Ascends b ts → Ascends a ts
@@ -107,47 +203,17 @@ weighs : (t : Bool) (n : ℕ) → (t ≡ true → 1 ≤ n) → cond t 1 0 ≤ n
 weighs true n h = h refl
 weighs false n h = omega arith
 
-pub ascends : (s : List ℕ) (p : ℕ) (ts : List (ℕ × Tok)) → Reads s p ts → Ascends p ts
-ascends s p [] x = tt
-ascends s p (t ∷ ts) x =
+pub ascends : (s : List ℕ) (first : Bool) (p : ℕ) (ts : List (ℕ × Tok)) → Reads s first p ts → Ascends p ts
+ascends s first p [] x = tt
+ascends s first p (t ∷ ts) x =
     let w = weighs (has-bytes (t .1)) (x .size) (x .solid) in
-    (x .past, lower (t .0 + cond (has-bytes (t .1)) 1 0) (t .0 + x .size) ts (omega (arith, w)) (ascends s (t .0 + x .size) ts (x .then)))
+    (x .past, lower (t .0 + cond (has-bytes (t .1)) 1 0) (t .0 + x .size) ts (omega (arith, w)) (ascends s (begins-line (t .1) first) (t .0 + x .size) ts (x .then)))
 
 -- levels
 abbrev Open-levels : Mode → ℕ → List (ℕ × Tok) → Type 0
 Open-levels (Mode.Fresh c) n ts = Balanced n ts
 Open-levels Mode.Inside n ts = Balanced n ts
 Open-levels Mode.Over n ts = ts ≡ []
-
--- a scanned token opens and closes no level
-named-bytes : (o : Option Keyword) (w : List ℕ) → has-bytes (named o w) ≡ true
-named-bytes (Some k) w = refl
-named-bytes None w = refl
-
-numbered-bytes : (o : Option ℕ) → is-fault (numbered o) ≡ false → has-bytes (numbered o) ≡ true
-numbered-bytes (Some v) f = refl
-numbered-bytes None f = absurd (true≢false f)
-
-texted-bytes : (r : List ℕ) (o : Option ℕ) → is-fault (texted r o .0) ≡ false → has-bytes (texted r o .0) ≡ true
-texted-bytes r (Some e) f = refl
-texted-bytes r None f = absurd (true≢false f)
-
-marked-bytes : (o : Option (Symbol × ℕ)) → is-fault (marked o .0) ≡ false → has-bytes (marked o .0) ≡ true
-marked-bytes (Some o) f = refl
-marked-bytes None f = absurd (true≢false f)
-
-class-bytes : (k : Class) (r : List ℕ) → is-fault (scan-by k r .0) ≡ false → has-bytes (scan-by k r .0) ≡ true
-class-bytes Blank r f = absurd (true≢false f)
-class-bytes LineEnd r f = absurd (true≢false f)
-class-bytes Hash r f = absurd (true≢false f)
-class-bytes Letter r f = named-bytes _ _
-class-bytes Digit r f = numbered-bytes _ f
-class-bytes Quote r f = texted-bytes r _ f
-class-bytes Mark r f = marked-bytes _ f
-class-bytes Other r f = absurd (true≢false f)
-
-pub scan-bytes : (r : List ℕ) → is-fault (scan-of r .0) ≡ false → has-bytes (scan-of r .0) ≡ true
-scan-bytes r f = class-bytes (class-of (getD r 0 0)) r f
 
 opens-none : (t : Tok) (m : ℕ) (ts : List (ℕ × Tok)) → has-bytes t ≡ true → Balanced m ts → Opens t m ts (λ k. Balanced k ts)
 opens-none (Tok.name w) m ts e b = b
@@ -185,9 +251,9 @@ module _ (s : List ℕ) where
     token = λ ls p ts h b f x. opens-none (token-at s p) (length ls) ts (scan-bytes (drop p s) f) x;
     fault = λ ls p ts h b f x. opens-last (token-at s p) (length ls) ts f x;
     fault-first = λ c ls p ts h b f x. opens-last (token-at s p) (length ls) ts f x;
-    same = λ c ls p ts h b e x. x;
-    indent = λ c ls p ts h b e x. subst (λ (n : ℕ). Balanced n ts) (omega arith) x;
-    dedent = λ c l ls p ts h b e x. (omega arith, subst (λ (n : ℕ). Balanced n ts) (omega arith) x);
+    same = λ c ls p ts h b f e x. opens-none (token-at s p) (length ls) ts (scan-bytes (drop p s) f) x;
+    indent = λ c ls p ts h b f e x. opens-none (token-at s p) (length ls + 1) ts (scan-bytes (drop p s) f) (subst (λ (n : ℕ). Balanced n ts) (omega arith) x);
+    dedent = λ c l ls p ts h b f e x. (omega arith, subst (λ (n : ℕ). Balanced n ts) (omega arith) x);
     nowhere = λ c ls p ts h b f e x. x;
     over = λ ls p ts h x. x;
     last-line = λ ls ts x. x;
@@ -199,6 +265,7 @@ module _ (s : List ℕ) where
 pub laws : Tokens-stand
 laws s = record {
   reads = reads s;
-  ascends = ascends s 0 (tokens s) (reads s);
+  ascends = ascends s true 0 (tokens s) (reads s);
   balanced = kept-all s (λ m ls p ts. Open-levels m (length ls) ts) (levels-kept s);
+  leveled = leveled s;
 }

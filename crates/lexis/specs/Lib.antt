@@ -2,6 +2,7 @@ pub mod Balance
 pub mod Bytes
 pub mod Faults
 pub mod Laws
+pub mod Levels
 pub mod Lines
 pub mod Numbers
 pub mod Reading

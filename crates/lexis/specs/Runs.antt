@@ -40,3 +40,14 @@ abbrev pub in-run : Run → ℕ → Bool
 in-run Run.Word b = in-word (class-of b)
 in-run Run.Digits b = is-numeral (class-of b)
 in-run Run.Comment b = not (ends-line (class-of b))
+
+-- outside comments and strings, a byte of this class begins a token or is a fault
+abbrev pub starts : Class → Bool
+starts Blank = false
+starts LineEnd = false
+starts Hash = false
+starts Letter = true
+starts Digit = true
+starts Quote = true
+starts Mark = true
+starts Other = true

@@ -3,6 +3,7 @@ use mathlib.Core.Bool.{Bool, true, false, cond, _&&_}
 use mathlib.Core.List.{List, [], _∷_, _++_}
 use Prim.Native.Nat.{ℕ, _+_}
 use lib.Dec.{eqb, ltb, leb}
+use Rattle.std.specs.Iters.{folded}
 use Rattle.std.specs.Options.{isSome}
 use Rattle.std.specs.declared.option.Option.{Option}
 use Rattle.std.specs.declared.option.Option.the-variants.{Some, None}
@@ -40,6 +41,16 @@ ends Quoted.Bad p later = None
 abbrev pub text-end : Quoted → ℕ → List ℕ → Option ℕ
 text-end q p [] = None
 text-end q p (b ∷ bs) = ends (text-step q b) p (text-end (text-step q b) (p + 1) bs)
+
+abbrev pub is-inside : Quoted → Bool
+is-inside (Quoted.Plain v) = true
+is-inside (Quoted.Escaped v) = false
+is-inside Quoted.Closed = false
+is-inside Quoted.Bad = false
+
+-- w may stand between quotes
+abbrev pub is-text : List ℕ → Bool
+is-text w = is-inside (folded text-step (Quoted.Plain 0) w)
 
 abbrev pub or-else : Option ℕ → ℕ → ℕ
 or-else (Some v) b = v

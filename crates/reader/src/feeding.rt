@@ -33,7 +33,8 @@ impl<'a, 's> Feed<'a, 's> {
     pub fn next(&self) -> Option<Next>
         ensures { λ r. ⌜ NextTold (feed-source (now (self .entry))) (coming (now (self .entry))) r ⌝ }
     {
-        self.next
+        let next = self.next;
+        next
     }
 
     // Goes past the next token.

@@ -9,7 +9,7 @@ use Rattle.grammar.specs.Grammar.{Program}
 use Rattle.grammar.specs.Profile.{profile}
 use Rattle.grammar.specs.Exactly.{Within}
 use Rattle.grammar.specs.Theorems.{Iff}
-use Rattle.grammar.specs.Verdict.{Why, accepted, most-levels, refused}
+use Rattle.grammar.specs.Verdict.{Why, accepted, incomplete, most-levels, refused}
 use Rattle.syntax.specs.Reading.{reading, source-tokens}
 
 -- a source of at most 4,096 bytes whose tokens the grammar reads as this program, within the limits
@@ -27,3 +27,5 @@ pub record ReadsExactly : Type 0 where
   pub refuses : (s : List ℕ) (n p : ℕ) → Iff (reading s ≡ refused n p) (RefusedFor s n p)
   -- no source reads as two programs
   pub unique : (s : List ℕ) (ds es : Decls) (ss us : Stmts) → ReadsAs s ds ss → ReadsAs s es us → (ds ≡ es) × (ss ≡ us)
+  -- a verdict always comes: the tokens of a source never end too soon
+  pub judges : (s : List ℕ) → reading s ≡ incomplete → ⊥
