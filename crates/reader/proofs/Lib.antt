@@ -3,3 +3,4 @@ pub mod MarkFacts
 pub mod Storing
 pub mod TypeMoves
 pub mod Refusing
+pub mod VariableMoves

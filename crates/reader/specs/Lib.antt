@@ -6,3 +6,4 @@ pub mod Stops
 pub mod Taking
 pub mod Keeping
 pub mod Types
+pub mod Definitions

@@ -1,4 +1,5 @@
 // Reading a routine into a table of nodes, by functions that call each other.
+mod definitions;
 pub mod feeding;
 pub mod feeds;
 pub mod forms;
