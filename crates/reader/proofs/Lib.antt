@@ -4,3 +4,4 @@ pub mod Storing
 pub mod TypeMoves
 pub mod Refusing
 pub mod VariableMoves
+pub mod ParameterMoves

@@ -7,3 +7,4 @@ pub mod Taking
 pub mod Keeping
 pub mod Types
 pub mod Definitions
+pub mod Parameters

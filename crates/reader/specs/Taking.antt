@@ -1,8 +1,10 @@
 -- What is told where a mark or a name must come.
+use mathlib.Core.Bool.{Bool, true, false}
 use mathlib.Core.List.{List, [], _∷_}
 use mathlib.Core.Option.{none}
 use mathlib.Core.Path.{_≡_}
 use Prim.Native.Nat.{ℕ}
+use lib.ListN.{drop}
 use Rattle.std.specs.declared.result.Result.{Result}
 use Rattle.std.specs.declared.result.Result.the-variants.{Ok, Err}
 use Rattle.arena.specs.declared.nodes.Stretch.{Stretch}
@@ -38,3 +40,13 @@ NoName (t ∷ ts) e = ((s : ℕ → tree.Text → State) → names s t ≡ none)
 abbrev pub NameTold : List ℕ → List Token → List Token → Result Stretch Stop → Type 0
 NameTold src ts us (Ok n) = ts ≡ at (tree.name (spelled src n)) (n .at) ∷ us
 NameTold src ts us (Err e) = NoName ts e × (us ≡ ts)
+
+-- the first of some tokens is not this mark, for whatever state comes after
+abbrev pub Another : Mark → List Token → Type 0
+Another m [] = Unit {0}
+Another m (t ∷ ts) = (s : ℕ → State) → expect (mark-of m) s t ≡ none
+
+-- whether the first of some tokens is this mark
+abbrev pub Faces : Mark → List Token → Bool → Type 0
+Faces m ts true = (q : ℕ) × (ts ≡ at (tree.mark (mark-of m)) q ∷ drop 1 ts)
+Faces m ts false = Another m ts

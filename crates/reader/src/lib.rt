@@ -4,6 +4,7 @@ pub mod feeding;
 pub mod feeds;
 pub mod forms;
 pub mod kinds;
+mod parameters;
 pub mod refusals;
 mod taking;
 mod types;

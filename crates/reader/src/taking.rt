@@ -10,7 +10,7 @@ ghost use Rattle.grammar.specs.Verdict.{refused};
 ghost use Rattle.reader.specs.Feeds.{coming, feed-source};
 ghost use Rattle.reader.specs.Kinds.{next-token};
 ghost use Rattle.reader.specs.Marks.{is-marked};
-ghost use Rattle.reader.specs.Taking.{Bars, MarkTold, NameTold};
+ghost use Rattle.reader.specs.Taking.{Bars, Faces, MarkTold, NameTold};
 ghost use Rattle.reader.specs.Stops.{stop-of};
 use crate::feeds::Feed;
 use crate::kinds::Kind;
@@ -93,6 +93,16 @@ fn is_mark(next: Next, mark: Mark) -> bool
         | Kind::Not
         | Kind::Operator(_)
         | Kind::Fault(_) => false,
+    }
+}
+
+// Whether this mark comes next.
+pub(crate) fn faces(feed: &Feed<'_, '_>, mark: Mark) -> bool
+    ensures { λ r. ⌜ Faces mark (coming (now (feed .entry))) r ⌝ }
+{
+    match feed.next() {
+        Some(next) => is_mark(next, mark),
+        None => false,
     }
 }
 
