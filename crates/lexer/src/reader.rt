@@ -95,10 +95,8 @@ impl<'a, 's> Lexer<'a, 's> {
     {
         self.pos = next;
         self.phase = Phase::Fresh;
-        Placed {
-            token: Token::Newline,
-            at,
-        }
+        let token = Token::Newline;
+        Placed { token, at }
     }
 
     // The DEDENT that closes the innermost level.
