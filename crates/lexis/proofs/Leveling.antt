@@ -16,10 +16,10 @@ use Rattle.std.proofs.shelf.Tests.{true≢false, cond-true, cond-false, ltb-tru
 use Rattle.lexis.specs.Bytes.{class-of, among}
 use Rattle.lexis.specs.Levels.{advanced, column, Misfits, Settles, Leveled}
 use Rattle.lexis.specs.Lines.{is-fault, is-open, top-level, level-of, widened, tokens}
-use Rattle.lexis.specs.Reading.{has-bytes}
 use Rattle.lexis.specs.Runs.{in-run, ends-line, starts}
 use Rattle.lexis.specs.Scans.{scan-of, scan-by, named, numbered, texted, marked}
 use Rattle.lexis.specs.Tokens.{Tok}
+use Rattle.lexis.specs.Written.{has-bytes}
 use Rattle.lexis.specs.declared.bytes.Class.{Class}
 use Rattle.lexis.specs.declared.bytes.Class.the-variants.{Blank, LineEnd, Hash, Letter, Digit, Quote, Mark, Other}
 use Rattle.lexis.specs.declared.faults.Fault.{Fault}
@@ -101,7 +101,7 @@ shallower-open c l ls e =
 
 module _ (s : List ℕ) where
   -- in the blanks of a line the column is known, up to the line's end
-  abbrev Clear : ℕ → ℕ → Type 0
+  abbrev pub Clear : ℕ → ℕ → Type 0
   Clear c p = p < length s → ends-line (class-at s p) ≡ false → c ≡ column s p
 
   abbrev Q : Mode → List ℕ → ℕ → List (ℕ × Tok) → Type 0
@@ -112,13 +112,13 @@ module _ (s : List ℕ) where
   column-more : (p : ℕ) → p < length s → column s (p + 1) ≡ advanced (column s p) (getD (drop p s) 0 0)
   column-more p h = folded-more advanced 0 s p 0 h ∙ ap (advanced (column s p)) (sym (byte-at s p))
 
-  after-blank : (c p : ℕ) → p < length s → class-at s p ≡ Blank → c ≡ column s p → widened (getD (drop p s) 0 0) c ≡ column s (p + 1)
+  pub after-blank : (c p : ℕ) → p < length s → class-at s p ≡ Blank → c ≡ column s p → widened (getD (drop p s) 0 0) c ≡ column s (p + 1)
   after-blank c p h e k = ap (widened (getD (drop p s) 0 0)) k ∙ sym (column-more p h ∙ cond-false _ _ _ (ap ends-line e))
 
-  after-end : (p : ℕ) → p < length s → class-at s p ≡ LineEnd → 0 ≡ column s (p + 1)
+  pub after-end : (p : ℕ) → p < length s → class-at s p ≡ LineEnd → 0 ≡ column s (p + 1)
   after-end p h e = sym (column-more p h ∙ cond-true _ _ _ (ap ends-line e))
 
-  after-remark : (p : ℕ) → p < length s → p + comment-at s p < length s → ends-line (class-at s (p + comment-at s p)) ≡ false → ⊥
+  pub after-remark : (p : ℕ) → p < length s → p + comment-at s p < length s → ends-line (class-at s (p + comment-at s p)) ≡ false → ⊥
   after-remark p h k e =
       let n = comment-at s p in
       let stops : not (ends-line (class-of (getD (drop p s) n 0))) ≡ false = run-stops (in-run Run.Comment) (drop p s) (omega (arith, k, length-drop p s)) in
@@ -127,7 +127,7 @@ module _ (s : List ℕ) where
       true≢false (sym is ∙ e)
 
   -- the column of a line's first token
-  at-start : (c p : ℕ) → p < length s → starts (class-at s p) ≡ true → Clear c p → c ≡ column s p
+  pub at-start : (c p : ℕ) → p < length s → starts (class-at s p) ≡ true → Clear c p → c ≡ column s p
   at-start c p h b k = k h (no-end (class-at s p) b)
 
   plain : (first : Bool) (ls : List ℕ) (q : ℕ) (t : Tok) (ts : List (ℕ × Tok)) → has-bytes t ≡ true → (first ≡ true → column s q ≡ top-level ls) → Leveled s false ls ts → Settles s first ls q t ts (λ b k. Leveled s b k ts)

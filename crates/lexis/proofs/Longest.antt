@@ -15,12 +15,12 @@ use Rattle.std.proofs.shelf.Lists.{take-append-drop, append-assoc, length-appen
 use Rattle.std.proofs.shelf.Tests.{true≢false, and-parts, cases-lt}
 use Rattle.lexis.specs.Bytes.{class-of}
 use Rattle.lexis.specs.Numbers.{number-of}
-use Rattle.lexis.specs.Reading.{every, Writes, has-bytes, Longest, Blames, Best, fault-class}
 use Rattle.lexis.specs.Runs.{in-run, in-word, is-numeral}
 use Rattle.lexis.specs.Scans.{scan-of, scan-by, named, numbered, texted, marked}
 use Rattle.lexis.specs.Texts.{text-step, text-end, ends, is-inside, is-text}
 use Rattle.lexis.specs.Tokens.{Tok}
 use Rattle.lexis.specs.Words.{beside, doubles, singles, either, symbol-of, symbol-bytes, spelled, keyword-of}
+use Rattle.lexis.specs.Written.{every, Writes, has-bytes, Longest, Blames, Best, fault-class}
 use Rattle.lexis.specs.declared.bytes.Class.{Class}
 use Rattle.lexis.specs.declared.bytes.Class.the-variants.{Blank, LineEnd, Hash, Letter, Digit, Quote, Mark, Other}
 use Rattle.lexis.specs.declared.faults.Fault.{Fault}
@@ -31,7 +31,7 @@ use Rattle.lexis.specs.declared.tokens.Symbol.{Symbol}
 use Rattle.lexis.proofs.Spelling.{Open, beside-is, right-doubles, right-singles}
 
 -- what class of byte a token begins with, as a number
-abbrev code : Class → ℕ
+abbrev pub code : Class → ℕ
 code Blank = 0
 code LineEnd = 0
 code Hash = 0
@@ -41,7 +41,7 @@ code Quote = 3
 code Mark = 4
 code Other = 0
 
-abbrev kind : Tok → ℕ
+abbrev pub kind : Tok → ℕ
 kind (Tok.name w) = 1
 kind (Tok.str w) = 3
 kind (Tok.int n) = 2
@@ -227,7 +227,7 @@ numeral-class Mark e = absurd (true≢false (sym e))
 numeral-class Other e = absurd (true≢false (sym e))
 
 -- the first byte of a token tells its kind
-first-kind : (t : Tok) (x j : ℕ) (xs : List ℕ) → has-bytes t ≡ true → Writes t (take (suc j) (x ∷ xs)) → code (class-of x) ≡ kind t
+pub first-kind : (t : Tok) (x j : ℕ) (xs : List ℕ) → has-bytes t ≡ true → Writes t (take (suc j) (x ∷ xs)) → code (class-of x) ≡ kind t
 first-kind (Tok.name w) x j xs b h = ap (λ (u : List ℕ). code (class-of (getD u 0 0))) (h .0) ∙ ap code (h .1)
 first-kind (Tok.str w) x j xs b h = ap (λ (u : List ℕ). code (class-of (getD u 0 0))) (h .0)
 first-kind (Tok.int n) x j xs b h = numeral-class (class-of x) (and-parts (in-run Run.Digits x) _ (h .0) .0)
@@ -239,7 +239,7 @@ first-kind Tok.dedent x j xs b h = absurd (true≢false (sym b))
 first-kind Tok.done x j xs b h = absurd (true≢false (sym b))
 first-kind (Tok.fault f) x j xs b h = absurd (true≢false (sym b))
 
-kind-some : (t : Tok) → has-bytes t ≡ true → 1 ≤ kind t
+pub kind-some : (t : Tok) → has-bytes t ≡ true → 1 ≤ kind t
 kind-some (Tok.name w) b = omega arith
 kind-some (Tok.str w) b = omega arith
 kind-some (Tok.int n) b = omega arith
@@ -256,7 +256,7 @@ bound-step : (f : ℕ → Bool) (x j : ℕ) (xs : List ℕ) (t : Bool) → f x �
 bound-step f x j xs true e g h = omega arith
 bound-step f x j xs false e g h = absurd (true≢false (sym g))
 
-run-bound : (f : ℕ → Bool) (xs : List ℕ) (m : ℕ) → m ≤ length xs → every f (take m xs) ≡ true → m ≤ leading f xs
+pub run-bound : (f : ℕ → Bool) (xs : List ℕ) (m : ℕ) → m ≤ length xs → every f (take m xs) ≡ true → m ≤ leading f xs
 run-bound f xs zero h e = omega arith
 run-bound f [] (suc j) h e = absurd (omega arith)
 run-bound f (x ∷ xs) (suc j) h e =
@@ -330,7 +330,7 @@ closes-now Quoted.Closed p rest o h = absurd o
 closes-now Quoted.Bad p rest o h = absurd o
 
 -- a text is closed by the quote behind it
-closes : (q : Quoted) (p : ℕ) (w rest : List ℕ) → Open q → is-inside (folded text-step q w) ≡ true → text-end q p (w ++ 34 ∷ rest) ≡ Some (p + length w)
+pub closes : (q : Quoted) (p : ℕ) (w rest : List ℕ) → Open q → is-inside (folded text-step q w) ≡ true → text-end q p (w ++ 34 ∷ rest) ≡ Some (p + length w)
 closes q p [] rest o h = closes-now q p rest o h
 closes q p (b ∷ w) rest o h = closes-step (text-step q b) p w rest (closes (text-step q b) (p + 1) w rest) h
 

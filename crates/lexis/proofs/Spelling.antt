@@ -17,12 +17,12 @@ use Rattle.std.proofs.shelf.Tests.{true≢false, and-from, and-parts, eqb-true}
 use Rattle.lexis.specs.Bytes.{class-of, is-blank, is-line-end, is-letter, is-digit, is-mark}
 use Rattle.lexis.specs.Lines.{is-fault}
 use Rattle.lexis.specs.Numbers.{number-of}
-use Rattle.lexis.specs.Reading.{every, Writes, has-bytes}
 use Rattle.lexis.specs.Runs.{in-run}
 use Rattle.lexis.specs.Scans.{scan-of, scan-by, named, numbered, texted, marked}
 use Rattle.lexis.specs.Texts.{escape-of, longer-by, text-step, text-end, ends, is-inside, is-text}
 use Rattle.lexis.specs.Tokens.{Tok}
 use Rattle.lexis.specs.Words.{beside, doubles, singles, either, symbol-of, symbol-bytes, spelled, keywords, keyword-of, first-spelled}
+use Rattle.lexis.specs.Written.{every, Writes, has-bytes}
 use Rattle.lexis.specs.declared.bytes.Class.{Class}
 use Rattle.lexis.specs.declared.bytes.Class.the-variants.{Blank, LineEnd, Hash, Letter, Digit, Quote, Mark, Other}
 use Rattle.lexis.specs.declared.scans.Quoted.{Quoted}

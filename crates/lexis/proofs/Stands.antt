@@ -12,10 +12,11 @@ use Rattle.lexis.specs.Balance.{Opens, Balanced}
 use Rattle.lexis.specs.Bytes.{class-of}
 use Rattle.lexis.specs.Laws.{Lawful, Tokens-stand}
 use Rattle.lexis.specs.Lines.{is-fault, is-open, top-level, tokens}
-use Rattle.lexis.specs.Reading.{Writes, has-bytes, Best, Gap, Whole, There, Lies, first-place, fault-next, begins-line, Follows, Reads, Ascends}
+use Rattle.lexis.specs.Reading.{Gap, Lies, first-place, fault-next, begins-line, Follows, Reads, Ascends}
 use Rattle.lexis.specs.Runs.{starts}
 use Rattle.lexis.specs.Scans.{scan-of}
 use Rattle.lexis.specs.Tokens.{Tok}
+use Rattle.lexis.specs.Written.{Writes, has-bytes, Best}
 use Rattle.lexis.specs.declared.bytes.Class.the-variants.{Blank, LineEnd, Hash}
 use Rattle.lexis.specs.declared.faults.Fault.{Fault}
 use Rattle.lexis.specs.declared.lines.Mode.{Mode}
@@ -24,6 +25,7 @@ use Rattle.lexis.proofs.Rules.{Kept, kept-all, byte-at, class-at, token-at, si
 use Rattle.lexis.proofs.Sizes.{Fit, scan-size}
 use Rattle.lexis.proofs.Leveling.{leveled, shallower-open, picks-nowhere}
 use Rattle.lexis.proofs.Spelling.{scan-writes, scan-bytes}
+use Rattle.lexis.proofs.Whole.{scan-there}
 
 fault-writes : (t : Tok) (u : List ℕ) → is-fault t ≡ true → Writes t u
 fault-writes (Tok.name w) u e = absurd (true≢false (sym e))
@@ -36,18 +38,6 @@ fault-writes Tok.indent u e = absurd (true≢false (sym e))
 fault-writes Tok.dedent u e = absurd (true≢false (sym e))
 fault-writes Tok.done u e = absurd (true≢false (sym e))
 fault-writes (Tok.fault f) u e = tt
-
-best-whole : (t : Tok) (m : ℕ) (r : List ℕ) → has-bytes t ≡ true → Best t m r → Whole t m r
-best-whole (Tok.name w) m r e b = b
-best-whole (Tok.str w) m r e b = b
-best-whole (Tok.int n) m r e b = b
-best-whole (Tok.keyword k) m r e b = b
-best-whole (Tok.symbol o) m r e b = b
-best-whole Tok.newline m r e b = absurd (true≢false (sym e))
-best-whole Tok.indent m r e b = absurd (true≢false (sym e))
-best-whole Tok.dedent m r e b = absurd (true≢false (sym e))
-best-whole Tok.done m r e b = absurd (true≢false (sym e))
-best-whole (Tok.fault f) m r e b = absurd (true≢false (sym e))
 
 -- a token with bytes, or a fault, lies where it lies, and a line has begun past the first of these
 bytes-begin : (t : Tok) (first : Bool) → has-bytes t ≡ true → begins-line t first ≡ false
@@ -150,20 +140,6 @@ module _ (s : List ℕ) where
   elsewhere : (c : ℕ) (ls : List ℕ) (p : ℕ) (ts : List (ℕ × Tok)) → p < length s → starts (class-at s p) ≡ false → At c ls p ts
   elsewhere c ls p ts h e k = absurd (true≢false (sym (k h .0) ∙ e))
 
-  there : (p : ℕ) → p < length s → is-fault (token-at s p) ≡ false → There (drop p s)
-  there p h f =
-      let long : 0 < length (drop p s) = omega (arith, length-drop p s) in
-      let b = scan-bytes (drop p s) f in
-      record {
-        token = token-at s p;
-        size = size-at s p;
-        bytes = b;
-        some = fit p h .0;
-        within = fit p h .1;
-        writes = scan-writes (drop p s) long f;
-        whole = best-whole (token-at s p) (size-at s p) (drop p s) b (scan-best (drop p s) long);
-      }
-
   abbrev Q : Mode → List ℕ → ℕ → List (ℕ × Tok) → Type 0
   Q (Mode.Fresh c) ls p ts = Reads s true p ts × At c ls p ts
   Q Mode.Inside ls p ts = Reads s false p ts
@@ -183,7 +159,7 @@ module _ (s : List ℕ) where
     same = λ c ls p ts h b f e x. (scanned true p ts h f x, λ _. (refl, f));
     indent = λ c ls p ts h b f e x. (bare true p Tok.indent ((p, token-at s p) ∷ ts) (omega arith) refl tt (h, refl, f) refl (scanned true p ts h f x), λ _. (refl, refl));
     dedent = λ c l ls p ts h b f e x. (bare true p Tok.dedent ts (omega arith) refl tt (x .1 (λ _. (b, f, shallower-open c l ls e))) refl (x .0), λ _. (refl, refl));
-    nowhere = λ c ls p ts h b f e x. (bare true p (Tok.fault Fault.Indentation) ts (omega arith) tt (there p h f) (lie p h b) refl (subst (Reads s true p) (sym x) tt), λ k. absurd (true≢false (sym (k h .2) ∙ picks-nowhere (ltb (top-level ls) c) (eqb (top-level ls) c) (is-open c ls) e .1)));
+    nowhere = λ c ls p ts h b f e x. (bare true p (Tok.fault Fault.Indentation) ts (omega arith) tt (scan-there (drop p s) (omega (arith, length-drop p s)) f) (lie p h b) refl (subst (Reads s true p) (sym x) tt), λ k. absurd (true≢false (sym (k h .2) ∙ picks-nowhere (ltb (top-level ls) c) (eqb (top-level ls) c) (is-open c ls) e .1)));
     over = λ ls p ts h x. x;
     last-line = λ ls ts x. bare false (length s) Tok.newline ts (omega arith) refl tt (λ h. absurd (omega arith)) refl (x .0);
     last-dedent = λ c l ls ts x. (bare true (length s) Tok.dedent ts (omega arith) refl tt (x .1 (λ h. absurd (omega arith))) refl (x .0), λ _. (refl, refl));

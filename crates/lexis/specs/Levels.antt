@@ -40,6 +40,7 @@ Settles s first ls q Tok.dedent ts later = (first ≡ true) × ((l : ℕ) × (re
 Settles s first ls q Tok.done ts later = (first ≡ true) × (q ≡ length s) × (ls ≡ []) × (ts ≡ [])
 Settles s first ls q (Tok.fault f) ts later = Misfits s first ls q f × (ts ≡ [])
 
+-- the same of some tokens, one after the other; the last is END or a fault
 abbrev pub Leveled : List ℕ → Bool → List ℕ → List (ℕ × Tok) → Type 0
 Leveled s first ls [] = ⊥
 Leveled s first ls (x ∷ xs) = Settles s first ls (x .0) (x .1) xs (λ b k. Leveled s b k xs)

@@ -11,3 +11,5 @@ pub mod Scans
 pub mod Texts
 pub mod Tokens
 pub mod Words
+pub mod Written
+pub mod Count
