@@ -1,6 +1,9 @@
 pub mod Fed
 pub mod MarkFacts
 pub mod Storing
+pub mod Machine
+pub mod Steps
+pub mod ListSteps
 pub mod TypeMoves
 pub mod Refusing
 pub mod VariableMoves

@@ -31,30 +31,33 @@ stays src ns ns′ more i l e = ap (λ x. phrase src x i) e ∙ trees-stand .sta
 
 -- nothing changed
 pub kept-all : (f : Feed) (n : Arena) → Kept f n f n
-kept-all f n = record { source = refl; more = []; nodes = sym (append-nil (arena-nodes n)); limit = refl; cost = omega arith }
+kept-all f n = record { source = refl; more = []; nodes = sym (append-nil (arena-nodes n)); limit = refl; fewer = omega arith; cost = omega arith }
 
 -- one after the other
 pub kept-then : {f g h : Feed} {n m k : Arena} → Kept f n g m → Kept g m h k → Kept f n h k
 kept-then {f} {g} {h} {n} {m} {k} a b =
     let x = a .cost in
     let y = b .cost in
+    let v = a .fewer in
+    let w = b .fewer in
     record {
       source = b .source ∙ a .source;
       more = a .more ++ b .more;
       nodes = b .nodes ∙ ap (λ ns. ns ++ b .more) (a .nodes) ∙ append-assoc (arena-nodes n) (a .more) (b .more);
       limit = b .limit ∙ a .limit;
+      fewer = omega arith;
       cost = omega arith;
     }
 
 -- some tokens were taken
 pub kept-taken : {f g : Feed} (n : Arena) → feed-source g ≡ feed-source f → length (coming g) ≤ length (coming f) → Kept f n g n
-kept-taken {f} {g} n s l = record { source = s; more = []; nodes = sym (append-nil (arena-nodes n)); limit = refl; cost = omega arith }
+kept-taken {f} {g} n s l = record { source = s; more = []; nodes = sym (append-nil (arena-nodes n)); limit = refl; fewer = omega arith; cost = omega arith }
 
 -- a token was taken, and a node stored
 pub kept-one : {f g : Feed} {n m : Arena} (node : Node) → feed-source g ≡ feed-source f → length (coming g) + 1 ≤ length (coming f) → arena-nodes m ≡ arena-nodes n ++ (node ∷ []) → arena-limit m ≡ arena-limit n → Kept f n g m
 kept-one {f} {g} {n} {m} node s l e k =
     let x = ap length e ∙ length-append (arena-nodes n) (node ∷ []) in
-    record { source = s; more = node ∷ []; nodes = e; limit = k; cost = omega arith }
+    record { source = s; more = node ∷ []; nodes = e; limit = k; fewer = omega arith; cost = omega arith }
 
 pub shorter : {A : Type 0} (x : A) (xs ys zs : List A) → xs ≡ x ∷ ys → zs ≡ ys → length zs + 1 ≤ length xs
 shorter x xs ys zs e f = let a = ap length e in let b = ap length f in omega arith

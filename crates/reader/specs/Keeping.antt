@@ -15,6 +15,7 @@ pub record Kept (f : Feed) (n : Arena) (f′ : Feed) (n′ : Arena) : Type 0 whe
   pub more : List Node
   pub nodes : arena-nodes n′ ≡ arena-nodes n ++ more
   pub limit : arena-limit n′ ≡ arena-limit n
+  pub fewer : length (coming f′) ≤ length (coming f)
   pub cost : length (arena-nodes n′) + 4 * length (coming f′) ≤ length (arena-nodes n) + 4 * length (coming f)
 
 -- the table has room for all that the tokens may cost

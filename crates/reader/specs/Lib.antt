@@ -5,6 +5,9 @@ pub mod Forms
 pub mod Stops
 pub mod Taking
 pub mod Keeping
+pub mod Told
+pub mod Growing
+pub mod Lists
 pub mod Types
 pub mod Definitions
 pub mod Parameters

@@ -46,7 +46,7 @@ abbrev pub Another : Mark → List Token → Type 0
 Another m [] = Unit {0}
 Another m (t ∷ ts) = (s : ℕ → State) → expect (mark-of m) s t ≡ none
 
--- whether the first of some tokens is this mark
-abbrev pub Faces : Mark → List Token → Bool → Type 0
-Faces m ts true = (q : ℕ) × (ts ≡ at (tree.mark (mark-of m)) q ∷ drop 1 ts)
-Faces m ts false = Another m ts
+-- a mark that may come was passed, or is not there
+abbrev pub PassTold : Mark → List Token → List Token → Bool → Type 0
+PassTold m ts us true = (q : ℕ) × (ts ≡ at (tree.mark (mark-of m)) q ∷ us)
+PassTold m ts us false = (us ≡ ts) × Another m ts

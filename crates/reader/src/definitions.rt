@@ -2,17 +2,13 @@
 ghost use mathlib.Core.Path.{_≡_};
 ghost use Prim.Native.Nat.{_≤_};
 ghost use Rattle.arena.specs.Tables.{arena-nodes};
-ghost use Rattle.arena.specs.Trees.{literal-of};
 ghost use Rattle.reader.specs.Definitions.{LiteralTold, VariableTells};
 ghost use Rattle.reader.specs.Feeds.{coming, feed-source};
 ghost use Rattle.reader.specs.Keeping.{Kept, Room};
-ghost use Rattle.reader.specs.Kinds.{constant-of};
-ghost use mathlib.Core.List.{List};
-ghost use Prim.Native.Nat.{ℕ};
 use crate::feeds::Feed;
-use crate::kinds::Constant;
 use crate::kinds::Kind;
 use crate::kinds::Mark;
+use crate::making::literal;
 use crate::refusals::Stop;
 use crate::taking::stop_at;
 use crate::taking::store;
@@ -29,17 +25,6 @@ use arena::nodes::Stretch;
 pub(crate) struct PlacedLiteral {
     pub(crate) place: usize,
     pub(crate) literal: Literal,
-}
-
-fn literal(constant: Constant) -> Literal
-    ensures { λ r. ⌜ ((src : List ℕ) → literal-of src r ≡ constant-of constant) ⌝ }
-{
-    match constant {
-        Constant::None => Literal::None,
-        Constant::True => Literal::True,
-        Constant::False => Literal::False,
-        Constant::Integer(value) => Literal::Integer(value),
-    }
 }
 
 // Takes a literal that must come.

@@ -10,7 +10,7 @@ ghost use Rattle.grammar.specs.Verdict.{refused};
 ghost use Rattle.reader.specs.Feeds.{coming, feed-source};
 ghost use Rattle.reader.specs.Kinds.{next-token};
 ghost use Rattle.reader.specs.Marks.{is-marked};
-ghost use Rattle.reader.specs.Taking.{Bars, Faces, MarkTold, NameTold};
+ghost use Rattle.reader.specs.Taking.{Bars, MarkTold, NameTold, PassTold};
 ghost use Rattle.reader.specs.Stops.{stop-of};
 use crate::feeds::Feed;
 use crate::kinds::Kind;
@@ -96,16 +96,6 @@ fn is_mark(next: Next, mark: Mark) -> bool
     }
 }
 
-// Whether this mark comes next.
-pub(crate) fn faces(feed: &Feed<'_, '_>, mark: Mark) -> bool
-    ensures { λ r. ⌜ Faces mark (coming (now (feed .entry))) r ⌝ }
-{
-    match feed.next() {
-        Some(next) => is_mark(next, mark),
-        None => false,
-    }
-}
-
 // Takes a mark that must come.
 pub(crate) fn take_mark(feed: &mut Feed<'_, '_>, mark: Mark) -> Result<(), Stop>
     ensures told { λ r. ⌜ MarkTold mark (coming (now (feed .entry))) (coming (now (feed .exit))) r ⌝ }
@@ -147,5 +137,21 @@ pub(crate) fn take_name(feed: &mut Feed<'_, '_>) -> Result<Stretch, Stop>
         | Kind::Operator(_)
         | Kind::Mark(_)
         | Kind::Fault(_) => Err(stop_at(next)),
+    }
+}
+
+// Takes a mark that may come, and tells whether it came.
+pub(crate) fn passes(feed: &mut Feed<'_, '_>, mark: Mark) -> bool
+    ensures told { λ r. ⌜ PassTold mark (coming (now (feed .entry))) (coming (now (feed .exit))) r ⌝ }
+    ensures source { λ _. ⌜ feed-source (now (feed .exit)) ≡ feed-source (now (feed .entry)) ⌝ }
+{
+    let Some(next) = feed.next() else {
+        return false;
+    };
+    if is_mark(next, mark) {
+        feed.advance();
+        true
+    } else {
+        false
     }
 }
