@@ -3,7 +3,7 @@ ghost use Rattle.descent.specs.Theorems.{Descends-expr, Descends-after, Descen
 ghost use Rattle.descent.specs.Theorems.{Descends-line, Descends-stmt, Descends-if, Descends-more, Descends-lines, Descends-block, Descends-command, Descends-return, Descends-headline, Descends-lead, Descends-program, Descends-whole};
 ghost use Rattle.descent.specs.Calls.{Enough};
 
-pub fn descent_stands() -> u8
+pub fn descent_stands()
     ensures exprs { λ _. ⌜ Descends-expr ⌝ }
     ensures grown { λ _. ⌜ Descends-after ⌝ }
     ensures items { λ _. ⌜ Descends-items ⌝ }
@@ -28,6 +28,4 @@ pub fn descent_stands() -> u8
     ensures programs { λ _. ⌜ Descends-program ⌝ }
     ensures whole { λ _. ⌜ Descends-whole ⌝ }
     ensures enough { λ _. ⌜ Enough ⌝ }
-{
-    0
-}
+{}
