@@ -6,5 +6,5 @@ use Rattle.stack.proofs.Stack.items.Goals as goal
 pub returns : goal.returns
 returns g c =
     let s = c.args.self.now in
-    sym (ap reverse c.front-of.ensures
+    sym (ap reverse c.front_of.ensures
     ∙ ap reverse (same_front s.len c.len.result s.slots.now (c.len.ensures.value ∙ length-reverse (take s.len s.slots.now))))

@@ -11,5 +11,5 @@ returns-then-n-eq0 g c =
 
 pub returns : goal.returns
 returns g c =
-    ap Some c.last-of.ensures ∙ top_at c.items-held.result.now c.last-of.result c.if-n-eq0.false
+    ap Some c.last_of.ensures ∙ top_at c.items-held.result.now c.last_of.result c.if-n-eq0.false
     ∙ ap top_of (sym c.items-held.ensures)

@@ -28,6 +28,6 @@ returns c =
     let at = c.args.at in
     let rest = take (length xs - at) (drop at xs) in
     record {
-      value = cut_there (λ l. l.now) xs rest at (take_rest xs at) c.first-line.result c.first-line.ensures.value;
-      within = within_there (λ l. l.now) xs rest at (take_rest xs at) c.first-line.result (omega arith) c.first-line.ensures.within;
+      value = cut_there (λ l. l.now) xs rest at (take_rest xs at) c.first_line.result c.first_line.ensures.value;
+      within = within_there (λ l. l.now) xs rest at (take_rest xs at) c.first_line.result (omega arith) c.first_line.ensures.within;
     }
