@@ -25,8 +25,8 @@ returns-in-Err g c =
     let told = c.in-Err.ensures in
     let all : All = record {
       answer = record { count = c.loop-count.count; ending = c.in-Err.ending };
-      source = g.A.Host.meaning c.copy-one.new.from;
-      target = g.B.Host.meaning c.copy-one.new.to;
+      source = g.A.Host.meaning c.copy_one.new.from;
+      target = g.B.Host.meaning c.copy_one.new.to;
     } in
     let e : copied a₀ b₀ ≡ all = sym c.loop-count.invariant.0 ∙ stays c.loop-count.count a b c.in-Err.ending told.result told.source told.target in
     record {
