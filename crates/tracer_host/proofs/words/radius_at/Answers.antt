@@ -6,8 +6,8 @@ use Rattle.tracer_host.proofs.words.radius_at.Goals as goal
 pub returns-then-at-bytes : goal.returns-then-at-bytes
 returns-then-at-bytes c = record { value = radius_none c.args.bytes.now c.args.at (omega arith); within = tt }
 
-pub returns-in-default : goal.returns-in-default
-returns-in-default c =
+pub returns-in_default : goal.returns-in_default
+returns-in_default c =
     let xs = c.args.bytes.now in
     let r = take_rest xs c.args.at in
     let d = length-drop c.args.at xs in

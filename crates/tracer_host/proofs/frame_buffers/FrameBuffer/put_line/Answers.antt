@@ -4,8 +4,8 @@ use Rattle.tracer_host.specs.HostMeaning.{frame_bytes}
 use Rattle.tracer_host.proofs.FrameFacts.{frame_pending, frame_unframed}
 use Rattle.tracer_host.proofs.frame_buffers.FrameBuffer.put_line.Goals as goal
 
-pub invariant-of-self : goal.invariant-of-self
-invariant-of-self c =
+pub invariant_of-self : goal.invariant_of-self
+invariant_of-self c =
     let b = c.args.self.now in
     let e = frame_pending (frame_bytes b) c.args.line.now b.whole in
     (grind arith, tt)
