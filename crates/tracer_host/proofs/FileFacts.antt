@@ -27,15 +27,19 @@ high h l b = omega arith
 low : (h l : ℕ) → l < 256 → (h * 256 + l) % 256 ≡ l
 low h l b = omega arith
 
+below_parts : (x y : ℕ) (bs : List ℕ) → all_below 256 (x ∷ y ∷ bs) ≡ true → (y < 256) × (all_below 256 bs ≡ true)
+below_parts x y bs b = (grind arith, grind arith)
+
 -- an even number of bytes is the words that it spells
 spelled : (bs : List ℕ) (n : ℕ) → all_below 256 bs ≡ true → length bs ≡ 2 * n → words (radii_of bs) ≡ bs
 spelled [] n b e = refl
 spelled (x ∷ []) n b e = absurd (omega arith)
 spelled (x ∷ y ∷ bs) n b e =
-    let h : all_below 256 bs ≡ true → words (radii_of bs) ≡ bs = λ k. spelled bs (n - 1) k (omega arith) in
-    let p : y < 256 → (x * 256 + y) / 256 ≡ x = high x y in
-    let q : y < 256 → (x * 256 + y) % 256 ≡ y = low x y in
-    grind arith
+    let parts = below_parts x y bs b in
+    let h = spelled bs (n - 1) parts.1 (omega arith) in
+    let p = high x y parts.0 in
+    let q = low x y parts.0 in
+    cc
 
 length_radii : (bs : List ℕ) (n : ℕ) → length bs ≡ 2 * n → length (radii_of bs) ≡ n
 length_radii [] n e = omega arith

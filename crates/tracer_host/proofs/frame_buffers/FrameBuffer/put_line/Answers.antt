@@ -8,7 +8,7 @@ pub invariant_of-self : goal.invariant_of-self
 invariant_of-self c =
     let b = c.args.self.now in
     let e = frame_pending (frame_bytes b) c.args.line.now b.whole in
-    (grind arith, tt)
+    record { whole = grind arith }
 
 pub returns : goal.returns
 returns c =
