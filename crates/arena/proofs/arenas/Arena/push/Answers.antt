@@ -11,4 +11,4 @@ invariant_of-self c =
     let n = c.args.node in
     let b : before (0 + length ns) n ≡ true = grind arith in
     let o = ordered_more 0 ns n a.sorted b in
-    ((search rules, search rules), (grind arith, tt))
+    record { fits = (search rules, search rules); sorted = grind arith }
