@@ -4,11 +4,11 @@ use Rattle.arena.specs.Tables.{arena_nodes}
 use Rattle.arena.proofs.Stored.{ordered_more}
 use Rattle.arena.proofs.arenas.Arena.push.Goals as goal
 
-pub invariant-of-self : goal.invariant-of-self
-invariant-of-self c =
+pub invariant_of-self : goal.invariant_of-self
+invariant_of-self c =
     let a = c.args.self.now in
     let ns = arena_nodes a in
     let n = c.args.node in
     let b : before (0 + length ns) n ≡ true = grind arith in
     let o = ordered_more 0 ns n a.sorted b in
-    ((search rules, search rules), (grind arith, tt))
+    record { fits = (search rules, search rules); sorted = grind arith }
