@@ -69,7 +69,7 @@ fn puts_up_to_the_spare(rt: HostRuntime) -> Result<(), Fail> {
     assert_eq!(rt; host.put(b""), Err(Refusal::NoSpare));
     let printed = host.printed();
     assert!(rt; printed.len() == 260);
-    assert_eq!(rt; &printed[254..], b"x\nab\n\n");
+    assert_eq!(rt; &printed[254..], b"x\nab\n\n".as_slice());
     Ok(())
 }
 
@@ -107,7 +107,7 @@ fn radii_and_frames(rt: HostRuntime) -> Result<(), Fail> {
     assert_eq!(rt; host.put(b"abc"), Err(Refusal::NoSpare));
     assert_eq!(rt; host.put(b""), Ok(()));
     assert_eq!(rt; host.spare(), 2);
-    assert_eq!(rt; host.frames(), b"\x02ab\x00");
+    assert_eq!(rt; host.frames(), b"\x02ab\x00".as_slice());
     let empty = TracerHost::new(
         CheckedTrace::empty(rt.alloc()),
         FrameBuffer::new(rt.alloc(), 0)?,

@@ -30,7 +30,7 @@ fn quota_over_quota(rt: HostRuntime) -> Result<(), Fail> {
     assert_eq!(rt; pile.below.allowance, 2);
     assert_eq!(rt; pile.spare(), 2);
     assert_eq!(rt; pile.put(b""), Ok(()));
-    assert_eq!(rt; pile.below.below.printed(), b"hi\n\n");
+    assert_eq!(rt; pile.below.below.printed(), b"hi\n\n".as_slice());
     Ok(())
 }
 
@@ -79,7 +79,7 @@ fn a_line_that_does_not_fit_still_waits(rt: HostRuntime) -> Result<(), Fail> {
         }
     );
     assert_eq!(rt; from.waits(), Some(5));
-    assert_eq!(rt; to.printed(), b"one\ntwo\n");
+    assert_eq!(rt; to.printed(), b"one\ntwo\n".as_slice());
     assert_eq!(rt; to.spare(), 5);
     let mut more = text_host(&rt, b"", 11)?;
     assert_eq!(rt;
@@ -89,6 +89,6 @@ fn a_line_that_does_not_fit_still_waits(rt: HostRuntime) -> Result<(), Fail> {
             ending: Ending::AllCopied,
         }
     );
-    assert_eq!(rt; more.printed(), b"three\nfour\n");
+    assert_eq!(rt; more.printed(), b"three\nfour\n".as_slice());
     Ok(())
 }

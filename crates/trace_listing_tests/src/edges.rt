@@ -6,11 +6,11 @@ use trace_listing::listings::list_trace;
 #[test]
 fn short_traces(rt: HostRuntime) -> Result<(), Fail> {
     let none = list_trace(rt.alloc(), b"RAD\x00\x01\x00\x00")?;
-    assert_eq!(rt; none.bytes(), b"0 0\n");
+    assert_eq!(rt; none.bytes(), b"0 0\n".as_slice());
     let edges = list_trace(rt.alloc(), b"RAD\x00\x01\x00\x02\x00\x00\xff\xff")?;
-    assert_eq!(rt; edges.bytes(), b"0\n65535\n0 2\n");
+    assert_eq!(rt; edges.bytes(), b"0\n65535\n0 2\n".as_slice());
     let three = list_trace(rt.alloc(), b"RAD\x00\x01\x00\x03\x09\xc4\x00\x03\xff\xff")?;
-    assert_eq!(rt; three.bytes(), b"2500\n3\n65535\n0 3\n");
+    assert_eq!(rt; three.bytes(), b"2500\n3\n65535\n0 3\n".as_slice());
     Ok(())
 }
 
