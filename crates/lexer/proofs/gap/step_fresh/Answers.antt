@@ -34,8 +34,8 @@ pub returns-in-Hash : goal.returns-in-Hash
 returns-in-Hash c =
     let s = c.args.source.bytes.now in
     let p = c.args.pos in
-    let n = c.run-len.result in
-    let k = comment_some s p n c.if-pos-source.false c.in-Hash.ensures (c.run-len.ensures.value ∙ ap (prefix_len (in_run Run.Comment)) (take_rest s p)) in
+    let n = c.run_len.result in
+    let k = comment_some s p n c.if-pos-source.false c.in-Hash.ensures (c.run_len.ensures.value ∙ ap (prefix_len (in_run Run.Comment)) (take_rest s p)) in
     record {
       leads = λ ls. fresh_move s p c.args.column ls Hash c.if-pos-source.false c.in-Hash.ensures ∙ past_comment s p n (Mode.Fresh c.args.column) ls k;
       narrow = omega (arith, k);

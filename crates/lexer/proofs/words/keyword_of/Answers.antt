@@ -5,17 +5,17 @@ use Rattle.lexis.specs.Words.{keywords, first_spelled}
 use Rattle.lexer.proofs.Spelled.{spelled_here, spelled_later}
 use Rattle.lexer.proofs.words.keyword_of.Goals as goal
 
-pub returns-then-is-spelled : goal.returns-then-is-spelled
-returns-then-is-spelled c =
+pub returns-then-is_spelled : goal.returns-then-is_spelled
+returns-then-is_spelled c =
     let i = c.loop-k.k-index in
     let h : i < 35 = omega arith in
-    sym (spelled_here keywords c.args.word.now i Keyword.False h (sym c.is-spelled.ensures ∙ c.if-is-spelled.true)) ∙ c.loop-k.invariant
+    sym (spelled_here keywords c.args.word.now i Keyword.False h (sym c.is_spelled.ensures ∙ c.if-is_spelled.true)) ∙ c.loop-k.invariant
 
 pub loop-k-preserved : goal.loop-k-preserved
 loop-k-preserved c =
     let i = c.loop-k.k-index in
     let h : i < 35 = omega arith in
-    sym (spelled_later keywords c.args.word.now i Keyword.False h (sym c.is-spelled.ensures ∙ c.if-is-spelled.false)) ∙ c.loop-k.invariant
+    sym (spelled_later keywords c.args.word.now i Keyword.False h (sym c.is_spelled.ensures ∙ c.if-is_spelled.false)) ∙ c.loop-k.invariant
 
 pub returns : goal.returns
 returns c = sym (at_drop_all (λ l. first_spelled l c.args.word.now) keywords c.loop-k.k-index (omega arith)) ∙ c.loop-k.invariant

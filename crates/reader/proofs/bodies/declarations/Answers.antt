@@ -66,17 +66,17 @@ module _ {P : Owner → Type 0} {d b : ℕ} {o : OwnerAt P d → Reading} {e f g
         };
       }
 
-pub returns-in-err-last : goal.returns-in-err-last
-returns-in-err-last g c =
-    let bad = c.in-err-last.ensures in
+pub returns-in_err-last : goal.returns-in_err-last
+returns-in_err-last g c =
+    let bad = c.in_err-last.ensures in
     let src = feed_source c.args.feed.now in
-    stopped_behind c.from-residual.result _ c.from-residual.ensures.1 c.loop-last.invariant.1 bad.kept
+    stopped_behind c.from_residual.result _ c.from_residual.ensures.1 c.loop-last.invariant.1 bad.kept
     (λ x. bad.leads (declared_at (phrase src (arena_nodes c.loop-last.arena) c.loop-last.before).decls x))
 
 pub store-before-requires : goal.store-before-requires
 store-before-requires g c =
     let told : ItemTold g.S.Scope.owns c.args.depth c.loop-last.feed c.loop-last.arena c.item.new.feed c.item.new.arena (Ok (Item.Declaration c.in-Declaration.last)) =
-    subst (λ a. ItemTold g.S.Scope.owns c.args.depth c.loop-last.feed c.loop-last.arena c.item.new.feed c.item.new.arena (Ok a)) c.in-Declaration.is c.in-ok-last.ensures in
+    subst (λ a. ItemTold g.S.Scope.owns c.args.depth c.loop-last.feed c.loop-last.arena c.item.new.feed c.item.new.arena (Ok a)) c.in-Declaration.is c.in_ok-last.ensures in
     let long = kept_long told.kept in
     let old = c.loop-last.invariant.0 in
     let room = room_on c.loop-last.invariant.1.kept c.requires.room in
@@ -84,7 +84,7 @@ store-before-requires g c =
 
 pub loop-last-smaller : goal.loop-last-smaller
 loop-last-smaller g c =
-    let told = c.in-ok-last.ensures in
+    let told = c.in_ok-last.ensures in
     let long = kept_long told.kept in
     let spare = told.leads.spare in
     omega (arith, long, spare)
@@ -96,7 +96,7 @@ loop-last-preserved g c =
     let h = c.item.new.feed in
     let m = c.item.new.arena in
     let told : ItemTold g.S.Scope.owns c.args.depth f n h m (Ok (Item.Declaration c.in-Declaration.last)) =
-    subst (λ a. ItemTold g.S.Scope.owns c.args.depth f n h m (Ok a)) c.in-Declaration.is c.in-ok-last.ensures in
+    subst (λ a. ItemTold g.S.Scope.owns c.args.depth f n h m (Ok a)) c.in-Declaration.is c.in_ok-last.ensures in
     let st = c.store-before.ensures in (
       (stored (feed_source f) (arena_nodes m) (arena_nodes c.store-before.new.arena) _ c.store-before.result st.index st.nodes).here,
       declarations_more c.loop-last.invariant.1 c.loop-last.invariant.0 told st.index st.nodes st.limit,
@@ -109,5 +109,5 @@ returns-in-Statement g c =
     let h = c.item.new.feed in
     let m = c.item.new.arena in
     let told : ItemTold g.S.Scope.owns c.args.depth f n h m (Ok (Item.Statement c.in-Statement.statement)) =
-    subst (λ a. ItemTold g.S.Scope.owns c.args.depth f n h m (Ok a)) c.in-Statement.is c.in-ok-last.ensures in
+    subst (λ a. ItemTold g.S.Scope.owns c.args.depth f n h m (Ok a)) c.in-Statement.is c.in_ok-last.ensures in
     opening_told c.loop-last.invariant.1 c.loop-last.invariant.0 told

@@ -57,16 +57,16 @@ module _ {d : ℕ} {f g : Feed} {n m : Arena} {e : Body} {u : Unit {0}} (told : 
       }
   handed (Err y) body = record { kept = kept_then begun body.kept; leads = λ x. ap judged (told.gets.goes (inward x)) ∙ body.leads (owner_at x) }
 
-pub returns-in-err-take-indented : goal.returns-in-err-take-indented
-returns-in-err-take-indented c =
-    let bad = c.in-err-take-indented.ensures.told in
-    stopped c.from-residual.result _ c.from-residual.ensures.1 (kept_taken c.args.arena.now bad.source bad.fewer) (λ x. bad.gets (inward x))
+pub returns-in_err-take_indented : goal.returns-in_err-take_indented
+returns-in_err-take_indented c =
+    let bad = c.in_err-take_indented.ensures.told in
+    stopped c.from_residual.result _ c.from_residual.ensures.1 (kept_taken c.args.arena.now bad.source bad.fewer) (λ x. bad.gets (inward x))
 
-pub whole-body-requires : goal.whole-body-requires
-whole-body-requires c =
-    let ok = c.in-ok-take-indented.ensures in
+pub whole_body-requires : goal.whole_body-requires
+whole_body-requires c =
+    let ok = c.in_ok-take_indented.ensures in
     let below = ok.below in
-    record { room = room_on (begun ok.told c.empty-body-empty.ensures) c.requires.room; deep = omega (arith, below); empty = c.empty-body-empty.ensures.empty }
+    record { room = room_on (begun ok.told c.empty_body-empty.ensures) c.requires.room; deep = omega (arith, below); empty = c.empty_body-empty.ensures.empty }
 
 pub returns : goal.returns
-returns c = handed c.in-ok-take-indented.ensures.told c.empty-body-empty.ensures c.whole-body.result c.whole-body.ensures
+returns c = handed c.in_ok-take_indented.ensures.told c.empty_body-empty.ensures c.whole_body.result c.whole_body.ensures

@@ -17,4 +17,4 @@ item_anywhere (Ok (Item.Statement i)) told = record { kept = told.kept; leads = 
 item_anywhere (Err y) told = record { kept = told.kept; leads = λ x. told.leads (anyone x) }
 
 pub returns-in-Name : goal.returns-in-Name
-returns-in-Name g c = item_anywhere c.first-line.result c.first-line.ensures
+returns-in-Name g c = item_anywhere c.first_line.result c.first_line.ensures

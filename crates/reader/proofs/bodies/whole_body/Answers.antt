@@ -85,16 +85,16 @@ module _ {P : Owner → Type 0} {d j : ℕ} {f g : Feed} {n m : Arena} (k : Aren
         stopped_behind r y c a rest.kept
         (λ x. ap (λ s. judged (limited 64 (coming g) (start (base (frame_of x.owner (phrase src (arena_nodes k) v.declarations).decls) (phrase s (arena_nodes k) j).stmts)))) (sym a.kept.source) ∙ rest.leads (after x))
 
-pub returns-in-err-declarations : goal.returns-in-err-declarations
-returns-in-err-declarations g c =
+pub returns-in_err-declarations : goal.returns-in_err-declarations
+returns-in_err-declarations g c =
     let f = c.args.feed.now in
-    let bad = c.in-err-declarations.ensures in
-    stopped c.from-residual.result _ c.from-residual.ensures.1 bad.kept
+    let bad = c.in_err-declarations.ensures in
+    stopped c.from_residual.result _ c.from_residual.ensures.1 bad.kept
     (λ x. ap (λ ds. judged (limited 64 (coming f) (start (base (frame_of x.owner ds) tree.empty)))) (sym (c.requires.empty.none (feed_source f))) ∙ bad.leads x)
 
 pub store-first-requires : goal.store-first-requires
 store-first-requires g c =
-    let told = c.in-ok-declarations.ensures in
+    let told = c.in_ok-declarations.ensures in
     let long = kept_long told.kept in
     let old = c.requires.empty.statements in
     record { room = room_left told.kept c.requires.room told.leads.spare; placed = both_before (omega (arith, long, old)) told.leads.stored.1 }
@@ -103,9 +103,9 @@ pub statements-requires : goal.statements-requires
 statements-requires g c =
     let k = c.store-first.new.arena in
     let e = c.args.empty in
-    let v = c.in-ok-declarations.field-0 in
+    let v = c.in_ok-declarations.field-0 in
     let none = c.requires.empty in
-    let told = c.in-ok-declarations.ensures in
+    let told = c.in_ok-declarations.ensures in
     let st = c.store-first.ensures in
     record {
       room = room_on (first_stored k e v none told st.index st.nodes st.limit).kept c.requires.room;
@@ -114,14 +114,14 @@ statements-requires g c =
       some = first_filled k e v none told st.index st.nodes st.limit (feed_source c.declarations.new.feed);
     }
 
-pub returns-in-err-statements : goal.returns-in-err-statements
-returns-in-err-statements g c =
+pub returns-in_err-statements : goal.returns-in_err-statements
+returns-in_err-statements g c =
     let st = c.store-first.ensures in
-    body_stop c.store-first.new.arena c.args.empty c.in-ok-declarations.field-0 c.requires.empty c.in-ok-declarations.ensures st.index st.nodes st.limit c.close.result c.close.ensures
-    c.from-residual-in-err-statements.result _ c.from-residual-in-err-statements.ensures.1 c.in-err-statements.ensures
+    body_stop c.store-first.new.arena c.args.empty c.in_ok-declarations.field-0 c.requires.empty c.in_ok-declarations.ensures st.index st.nodes st.limit c.close.result c.close.ensures
+    c.from_residual-in_err-statements.result _ c.from_residual-in_err-statements.ensures.1 c.in_err-statements.ensures
 
 pub returns : goal.returns
 returns g c =
     let st = c.store-first.ensures in
-    body_told c.store-first.new.arena c.args.empty c.in-ok-declarations.field-0 c.requires.empty c.in-ok-declarations.ensures st.index st.nodes st.limit c.close.result c.close.ensures
-    c.in-ok-statements.statements c.in-ok-statements.ensures
+    body_told c.store-first.new.arena c.args.empty c.in_ok-declarations.field-0 c.requires.empty c.in_ok-declarations.ensures st.index st.nodes st.limit c.close.result c.close.ensures
+    c.in_ok-statements.statements c.in_ok-statements.ensures

@@ -44,55 +44,55 @@ opened {f = f} {k = k} {n = n} {m = m} {i = i} p a t c d index nodes limit =
     along_as (along_stored Node.NoDeclarations (along (headed n p a t c) (got n d (inside (feed_source f) p a))) nodes limit (omega (arith, long, t.gets.count, d.gets.count)))
     (λ ds. ap (λ (z : Phrase). limited 64 (coming k) (members_of z.decls (named_class (feed_source f) p a ds))) (sym new.stands))
 
-pub returns-in-err-take-indented : goal.returns-in-err-take-indented
-returns-in-err-take-indented c =
+pub returns-in_err-take_indented : goal.returns-in_err-take_indented
+returns-in_err-take_indented c =
     let f = c.args.feed.now in
-    let g = c.class-names.new.feed in
-    let h = c.take-mark.new.feed in
+    let g = c.class_names.new.feed in
+    let h = c.take_mark.new.feed in
     let n = c.args.arena.now in
     let p = c.args.place in
-    let a = c.in-ok-name.field-0 in
-    let colon = c.in-ok-take-mark.ensures in
-    let bad = c.in-err-take-indented.ensures.told in
+    let a = c.in_ok-name.field-0 in
+    let colon = c.in_ok-take_mark.ensures in
+    let bad = c.in_err-take_indented.ensures.told in
     let on : Passed (at (tree.mark tree.colon) colon.told.0) g h = record { first = colon.told.1; source = colon.source } in
-    stopped_behind c.from-residual-in-err-take-indented.result _ c.from-residual-in-err-take-indented.ensures.1
-    (headed n p a c.in-ok-name.ensures on) (kept_taken n bad.source bad.fewer)
+    stopped_behind c.from_residual-in_err-take_indented.result _ c.from_residual-in_err-take_indented.ensures.1
+    (headed n p a c.in_ok-name.ensures on) (kept_taken n bad.source bad.fewer)
     (λ ds. bad.gets (inside (feed_source f) p a ds))
 
-pub class-members-requires : goal.class-members-requires
-class-members-requires c =
+pub class_members-requires : goal.class_members-requires
+class_members-requires c =
     let st = c.store-none.ensures in
-    let names = c.in-ok-name.ensures in
-    let indent = c.in-ok-take-indented.ensures.told in
-    let colon = ap length c.in-ok-take-mark.ensures.told.1 in
+    let names = c.in_ok-name.ensures in
+    let indent = c.in_ok-take_indented.ensures.told in
+    let colon = ap length c.in_ok-take_mark.ensures.told.1 in
     let one = ap length st.nodes ∙ length-append (arena_nodes c.args.arena.now) (Node.NoDeclarations ∷ []) in
     record {
       room = omega (arith, colon, one, st.limit, names.gets.count, indent.gets.count, c.requires.room);
       stored = omega (arith, one, st.index);
     }
 
-pub returns-in-err-members : goal.returns-in-err-members
-returns-in-err-members c =
+pub returns-in_err-members : goal.returns-in_err-members
+returns-in_err-members c =
     let f = c.args.feed.now in
-    let g = c.class-names.new.feed in
-    let h = c.take-mark.new.feed in
+    let g = c.class_names.new.feed in
+    let h = c.take_mark.new.feed in
     let p = c.args.place in
-    let a = c.in-ok-name.field-0 in
+    let a = c.in_ok-name.field-0 in
     let st = c.store-none.ensures in
-    let colon = c.in-ok-take-mark.ensures in
-    let bad = c.in-err-members.ensures in
+    let colon = c.in_ok-take_mark.ensures in
+    let bad = c.in_err-members.ensures in
     let on : Passed (at (tree.mark tree.colon) colon.told.0) g h = record { first = colon.told.1; source = colon.source } in
-    stopped_behind c.from-residual-in-err-members.result _ c.from-residual-in-err-members.ensures.1
-    (opened p a c.in-ok-name.ensures on c.in-ok-take-indented.ensures.told st.index st.nodes st.limit) bad.kept
+    stopped_behind c.from_residual-in_err-members.result _ c.from_residual-in_err-members.ensures.1
+    (opened p a c.in_ok-name.ensures on c.in_ok-take_indented.ensures.told st.index st.nodes st.limit) bad.kept
     (λ ds. bad.leads (named_class (feed_source f) p a ds))
 
 pub store-requires : goal.store-requires
 store-requires c =
     let st = c.store-none.ensures in
-    let names = c.in-ok-name.ensures in
-    let indent = c.in-ok-take-indented.ensures.told in
-    let told = c.in-ok-members.ensures in
-    let colon = ap length c.in-ok-take-mark.ensures.told.1 in
+    let names = c.in_ok-name.ensures in
+    let indent = c.in_ok-take_indented.ensures.told in
+    let told = c.in_ok-members.ensures in
+    let colon = ap length c.in_ok-take_mark.ensures.told.1 in
     let one = ap length st.nodes ∙ length-append (arena_nodes c.args.arena.now) (Node.NoDeclarations ∷ []) in
     record {
       room = omega (arith, colon, one, st.limit, names.gets.count, indent.gets.count, told.kept.limit, told.leads.spare, c.requires.room);
@@ -102,21 +102,21 @@ store-requires c =
 pub returns : goal.returns
 returns c =
     let f = c.args.feed.now in
-    let g = c.class-names.new.feed in
-    let h = c.take-mark.new.feed in
-    let k = c.take-indented.new.feed in
-    let l = c.class-members.new.feed in
+    let g = c.class_names.new.feed in
+    let h = c.take_mark.new.feed in
+    let k = c.take_indented.new.feed in
+    let l = c.class_members.new.feed in
     let n = c.args.arena.now in
-    let q = c.class-members.new.arena in
+    let q = c.class_members.new.arena in
     let src = feed_source f in
     let p = c.args.place in
-    let a = c.in-ok-name.field-0 in
-    let j = c.in-ok-members.members in
+    let a = c.in_ok-name.field-0 in
+    let j = c.in_ok-members.members in
     let st = c.store-none.ensures in
-    let names = c.in-ok-name.ensures in
-    let colon = c.in-ok-take-mark.ensures in
-    let indent = c.in-ok-take-indented.ensures.told in
-    let told = c.in-ok-members.ensures in
+    let names = c.in_ok-name.ensures in
+    let colon = c.in_ok-take_mark.ensures in
+    let indent = c.in_ok-take_indented.ensures.told in
+    let told = c.in_ok-members.ensures in
     let on : Passed (at (tree.mark tree.colon) colon.told.0) g h = record { first = colon.told.1; source = colon.source } in
     let long = passed_long on in
     let one = ap length st.nodes ∙ length-append (arena_nodes n) (Node.NoDeclarations ∷ []) in

@@ -32,7 +32,7 @@ past src m i x = inner x.place x.name x.super (tree.decl x.members (phrase src (
 pub returns-in-Some : goal.returns-in-Some
 returns-in-Some c =
     let f = c.args.feed.now in
-    let g = c.take-if.new.feed in
+    let g = c.take_if.new.feed in
     let h = c.function.new.feed in
     let came = c.in-Some.ensures in
     let p = c.in-Some.place in
@@ -53,15 +53,15 @@ variable_told name (Err y) k t s = record { kept = k; leads = λ x. t (in_class 
 pub returns : goal.returns
 returns c =
     let f = c.args.feed.now in
-    let g = c.take-if.new.feed in
-    let h = c.take-name.new.feed in
-    let k = c.take-mark.new.feed in
+    let g = c.take_if.new.feed in
+    let h = c.take_name.new.feed in
+    let k = c.take_mark.new.feed in
     let l = c.variable.new.feed in
     let n = c.args.arena.now in
-    let name = c.in-ok-name.name in
-    let still = c.in-default.ensures in
-    let ok = c.in-ok-name.ensures in
-    let colon = c.in-ok-take-mark.ensures in
+    let name = c.in_ok-name.name in
+    let still = c.in_default.ensures in
+    let ok = c.in_ok-name.ensures in
+    let colon = c.in_ok-take_mark.ensures in
     let told = c.variable.ensures in
     let begun : Passed (at (tree.name (spelled (feed_source g) name)) name.at) f h = record { first = sym still.told.0 ∙ ok.told; source = ok.source ∙ still.source } in
     let on : Passed (at (tree.mark tree.colon) colon.told.0) h k = record { first = colon.told.1; source = colon.source } in

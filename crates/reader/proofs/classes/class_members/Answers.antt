@@ -18,20 +18,20 @@ use Rattle.reader.proofs.classes.class_members.Goals as goal
 abbrev with_members : Decls → ClassAt → MemberAt
 with_members ds x = record { place = x.place; name = x.name; super = x.super; others = x.others; members = ds }
 
-pub returns-in-err-last : goal.returns-in-err-last
-returns-in-err-last c =
+pub returns-in_err-last : goal.returns-in_err-last
+returns-in_err-last c =
     let m = c.loop-feed.arena in
     let ds = (phrase (feed_source c.args.feed.now) (arena_nodes m) c.loop-feed.before).decls in
     let still = c.loop-feed-test.ensures in
-    let bad = c.in-err-last.ensures in
-    stopped_behind c.from-residual.result _ c.from-residual.ensures.1 c.loop-feed.invariant.1 (kept_then (kept_still m still.told.0 still.source) bad.kept)
+    let bad = c.in_err-last.ensures in
+    stopped_behind c.from_residual.result _ c.from_residual.ensures.1 c.loop-feed.invariant.1 (kept_then (kept_still m still.told.0 still.source) bad.kept)
     (λ x. ap (λ ts. judged (limited 64 ts (members_of ds x))) (sym still.told.0) ∙ bad.leads (with_members ds x))
 
 pub store-before-requires : goal.store-before-requires
 store-before-requires c =
     let inv = c.loop-feed.invariant in
     let still = c.loop-feed-test.ensures in
-    let told = c.in-ok-last.ensures in
+    let told = c.in_ok-last.ensures in
     let same = ap length still.told.0 in
     let long = kept_long told.kept in
     record {
@@ -42,7 +42,7 @@ store-before-requires c =
 pub loop-feed-smaller : goal.loop-feed-smaller
 loop-feed-smaller c =
     let still = c.loop-feed-test.ensures in
-    let told = c.in-ok-last.ensures in
+    let told = c.in_ok-last.ensures in
     let same = ap length still.told.0 in
     let long = kept_long told.kept in
     omega (arith, same, long, told.leads.spare)
@@ -52,15 +52,15 @@ loop-feed-preserved c =
     let src = feed_source c.args.feed.now in
     let f = c.loop-feed.feed in
     let g = c.passes.new.feed in
-    let h = c.class-member.new.feed in
+    let h = c.class_member.new.feed in
     let m = c.loop-feed.arena in
-    let k = c.class-member.new.arena in
+    let k = c.class_member.new.arena in
     let q = c.store-before.new.arena in
     let before = c.loop-feed.before in
-    let last = c.in-ok-last.last in
+    let last = c.in_ok-last.last in
     let inv = c.loop-feed.invariant in
     let still = c.loop-feed-test.ensures in
-    let told = c.in-ok-last.ensures in
+    let told = c.in_ok-last.ensures in
     let st = c.store-before.ensures in
     let ds = (phrase src (arena_nodes m) before).decls in
     let same : feed_source g ≡ src = still.source ∙ inv.1.kept.source in

@@ -35,55 +35,55 @@ opened {f = f} p name a b =
       goes = λ ds. ap (λ ts. limited 64 ts (naming (for_class p ds))) a.first ∙ b.gets.goes (above p (named (feed_source f) name) ds);
     }
 
-pub returns-in-err-take-round : goal.returns-in-err-take-round
-returns-in-err-take-round c =
+pub returns-in_err-take_round : goal.returns-in_err-take_round
+returns-in_err-take_round c =
     let f = c.args.feed.now in
-    let g = c.take-name.new.feed in
+    let g = c.take_name.new.feed in
     let p = c.args.place in
-    let name = c.in-ok-name.name in
-    let ok = c.in-ok-name.ensures in
-    let bad = c.in-err-take-round.ensures.told in
+    let name = c.in_ok-name.name in
+    let ok = c.in_ok-name.ensures in
+    let bad = c.in_err-take_round.ensures.told in
     let begun : Passed (at (tree.name (spelled (feed_source f) name)) name.at) f g = record { first = ok.told; source = ok.source } in
     let long = passed_long begun in
-    ungot c.from-residual-in-err-take-round.result _ c.from-residual-in-err-take-round.ensures.1 (bad.source ∙ ok.source) (omega (arith, long, bad.fewer))
+    ungot c.from_residual-in_err-take_round.result _ c.from_residual-in_err-take_round.ensures.1 (bad.source ∙ ok.source) (omega (arith, long, bad.fewer))
     (λ ds. ap (λ ts. judged (limited 64 ts (naming (for_class p ds)))) ok.told ∙ bad.gets (above p (named (feed_source f) name) ds))
 
-pub returns-in-err-superclass : goal.returns-in-err-superclass
-returns-in-err-superclass c =
+pub returns-in_err-superclass : goal.returns-in_err-superclass
+returns-in_err-superclass c =
     let f = c.args.feed.now in
-    let g = c.take-name.new.feed in
-    let h = c.take-round.new.feed in
+    let g = c.take_name.new.feed in
+    let h = c.take_round.new.feed in
     let p = c.args.place in
-    let name = c.in-ok-name.name in
-    let ok = c.in-ok-name.ensures in
-    let bad = c.in-err-superclass.ensures in
+    let name = c.in_ok-name.name in
+    let ok = c.in_ok-name.ensures in
+    let bad = c.in_err-superclass.ensures in
     let begun : Passed (at (tree.name (spelled (feed_source f) name)) name.at) f g = record { first = ok.told; source = ok.source } in
-    let past = opened p name begun c.in-ok-take-round.ensures.told in
+    let past = opened p name begun c.in_ok-take_round.ensures.told in
     let same = ap length bad.told.1 in
-    ungot c.from-residual-in-err-superclass.result _ c.from-residual-in-err-superclass.ensures.1 (bad.source ∙ past.source) (omega (arith, same, past.count))
+    ungot c.from_residual-in_err-superclass.result _ c.from_residual-in_err-superclass.ensures.1 (bad.source ∙ past.source) (omega (arith, same, past.count))
     (λ ds. ap judged (past.goes ds) ∙ no_name (for_super p (named (feed_source f) name) ds) (coming h) _ bad.told.0)
 
 -- the marks after the names, and the members
 abbrev marks : List tree.Mark
 marks = tree.colon ∷ tree.newline ∷ tree.indent ∷ []
 
-pub returns-in-err-take-mark : goal.returns-in-err-take-mark
-returns-in-err-take-mark c =
+pub returns-in_err-take_mark : goal.returns-in_err-take_mark
+returns-in_err-take_mark c =
     let f = c.args.feed.now in
-    let g = c.take-name.new.feed in
-    let h = c.take-round.new.feed in
-    let k = c.take-name-2.new.feed in
+    let g = c.take_name.new.feed in
+    let h = c.take_round.new.feed in
+    let k = c.take_name-2.new.feed in
     let p = c.args.place in
-    let name = c.in-ok-name.name in
-    let super = c.in-ok-superclass.superclass in
-    let ok = c.in-ok-name.ensures in
-    let also = c.in-ok-superclass.ensures in
-    let bad = c.in-err-take-mark.ensures in
+    let name = c.in_ok-name.name in
+    let super = c.in_ok-superclass.superclass in
+    let ok = c.in_ok-name.ensures in
+    let also = c.in_ok-superclass.ensures in
+    let bad = c.in_err-take_mark.ensures in
     let begun : Passed (at (tree.name (spelled (feed_source f) name)) name.at) f g = record { first = ok.told; source = ok.source } in
-    let past = opened p name begun c.in-ok-take-round.ensures.told in
+    let past = opened p name begun c.in_ok-take_round.ensures.told in
     let long = ap length also.told in
     let same = ap length bad.told.1 in
-    ungot c.from-residual-in-err-take-mark.result _ c.from-residual-in-err-take-mark.ensures.1 (bad.source ∙ also.source ∙ past.source) (omega (arith, same, long, past.count))
+    ungot c.from_residual-in_err-take_mark.result _ c.from_residual-in_err-take_mark.ensures.1 (bad.source ∙ also.source ∙ past.source) (omega (arith, same, long, past.count))
     (λ ds.
     ap judged (past.goes ds ∙ ap (λ ts. limited 64 ts (naming (for_super p (named (feed_source f) name) ds))) also.told)
     ∙ no_seq Mark.RightRound marks (inner p (named (feed_source f) name) (named (feed_source h) super) tree.no_decls ds) (coming k) _ bad.told.0)
@@ -91,18 +91,18 @@ returns-in-err-take-mark c =
 pub returns : goal.returns
 returns c =
     let f = c.args.feed.now in
-    let g = c.take-name.new.feed in
-    let h = c.take-round.new.feed in
-    let k = c.take-name-2.new.feed in
-    let l = c.take-mark.new.feed in
+    let g = c.take_name.new.feed in
+    let h = c.take_round.new.feed in
+    let k = c.take_name-2.new.feed in
+    let l = c.take_mark.new.feed in
     let p = c.args.place in
-    let name = c.in-ok-name.name in
-    let super = c.in-ok-superclass.superclass in
-    let ok = c.in-ok-name.ensures in
-    let also = c.in-ok-superclass.ensures in
-    let end = c.in-ok-take-mark.ensures in
+    let name = c.in_ok-name.name in
+    let super = c.in_ok-superclass.superclass in
+    let ok = c.in_ok-name.ensures in
+    let also = c.in_ok-superclass.ensures in
+    let end = c.in_ok-take_mark.ensures in
     let begun : Passed (at (tree.name (spelled (feed_source f) name)) name.at) f g = record { first = ok.told; source = ok.source } in
-    let past = opened p name begun c.in-ok-take-round.ensures.told in
+    let past = opened p name begun c.in_ok-take_round.ensures.told in
     let long = ap length also.told in
     let more = ap length end.told.1 in
     let rest : List ℕ → Decls → State = λ s ds. inner p (named (feed_source f) name) (named s super) tree.no_decls ds in

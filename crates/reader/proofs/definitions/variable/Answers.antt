@@ -12,86 +12,86 @@ use Rattle.reader.proofs.Storing.{kept_one, kept_taken, kept_then, shorter, stor
 use Rattle.reader.proofs.VariableMoves.{assigned, line_ends, no_line_end, unassigned, unvalued, valued, var_slot}
 use Rattle.reader.proofs.definitions.variable.Goals as goal
 
-pub returns-in-err-annotation : goal.returns-in-err-annotation
-returns-in-err-annotation c =
+pub returns-in_err-annotation : goal.returns-in_err-annotation
+returns-in_err-annotation c =
     let src = feed_source c.args.feed.now in
-    let told = c.in-err-annotation.ensures in
-    let p = err_from_is_err_and c.from-residual.result c.from-residual.ensures.1 in
+    let told = c.in_err-annotation.ensures in
+    let p = err_from_is_err_and c.from_residual.result c.from_residual.ensures.1 in
     record {
       kept = told.kept;
       tells = subst (VariableTells src (arena_nodes c.annotation.new.arena) c.args.name c.args.depth (coming c.args.feed.now) (coming c.annotation.new.feed)) (sym (p.1 ∙ ap Err p.2))
           (λ x. told.tells (var_slot (named src c.args.name) c.args.depth x));
-      spare = unmade _ _ c.from-residual.result c.from-residual.ensures.1;
+      spare = unmade _ _ c.from_residual.result c.from_residual.ensures.1;
     }
 
-pub returns-in-err-take-mark : goal.returns-in-err-take-mark
-returns-in-err-take-mark c =
+pub returns-in_err-take_mark : goal.returns-in_err-take_mark
+returns-in_err-take_mark c =
     let src = feed_source c.args.feed.now in
     let n = named src c.args.name in
     let ns = arena_nodes c.annotation.new.arena in
-    let a = (phrase src ns c.in-ok-annotation.annotation).ann in
-    let typed = c.in-ok-annotation.ensures in
-    let bad = c.in-err-take-mark.ensures in
-    let p = err_from_is_err_and c.from-residual-in-err-take-mark.result c.from-residual-in-err-take-mark.ensures.1 in
+    let a = (phrase src ns c.in_ok-annotation.annotation).ann in
+    let typed = c.in_ok-annotation.ensures in
+    let bad = c.in_err-take_mark.ensures in
+    let p = err_from_is_err_and c.from_residual-in_err-take_mark.result c.from_residual-in_err-take_mark.ensures.1 in
     record {
       kept = kept_then typed.kept (kept_taken c.annotation.new.arena bad.source (let l = ap length bad.told.1 in omega arith));
-      tells = subst (VariableTells src ns c.args.name c.args.depth (coming c.args.feed.now) (coming c.take-mark.new.feed)) (sym (p.1 ∙ ap Err p.2))
+      tells = subst (VariableTells src ns c.args.name c.args.depth (coming c.args.feed.now) (coming c.take_mark.new.feed)) (sym (p.1 ∙ ap Err p.2))
           (λ x.
           ap judged (typed.tells.1 (var_slot n c.args.depth x))
-          ∙ unassigned n a x.outer (coming c.annotation.new.feed) c.in-err-take-mark.field-0.0 bad.told.0);
-      spare = unmade _ _ c.from-residual-in-err-take-mark.result c.from-residual-in-err-take-mark.ensures.1;
+          ∙ unassigned n a x.outer (coming c.annotation.new.feed) c.in_err-take_mark.field-0.0 bad.told.0);
+      spare = unmade _ _ c.from_residual-in_err-take_mark.result c.from_residual-in_err-take_mark.ensures.1;
     }
 
-pub returns-in-err-value : goal.returns-in-err-value
-returns-in-err-value c =
+pub returns-in_err-value : goal.returns-in_err-value
+returns-in_err-value c =
     let src = feed_source c.args.feed.now in
     let n = named src c.args.name in
     let ns = arena_nodes c.annotation.new.arena in
-    let a = (phrase src ns c.in-ok-annotation.annotation).ann in
-    let typed = c.in-ok-annotation.ensures in
-    let eq = c.in-ok-take-mark.ensures in
-    let bad = c.in-err-value.ensures in
+    let a = (phrase src ns c.in_ok-annotation.annotation).ann in
+    let typed = c.in_ok-annotation.ensures in
+    let eq = c.in_ok-take_mark.ensures in
+    let bad = c.in_err-value.ensures in
     let g = c.annotation.new.feed in
-    let h = c.take-mark.new.feed in
-    let p = err_from_is_err_and c.from-residual-in-err-value.result c.from-residual-in-err-value.ensures.1 in
+    let h = c.take_mark.new.feed in
+    let p = err_from_is_err_and c.from_residual-in_err-value.result c.from_residual-in_err-value.ensures.1 in
     record {
       kept = kept_then typed.kept
           (kept_then (kept_taken {g = h} c.annotation.new.arena eq.source (let l = ap length eq.told.1 in omega arith))
           (kept_taken c.annotation.new.arena bad.source (let l = ap length bad.told.1 in omega arith)));
-      tells = subst (VariableTells src ns c.args.name c.args.depth (coming c.args.feed.now) (coming c.take-literal.new.feed)) (sym (p.1 ∙ ap Err p.2))
+      tells = subst (VariableTells src ns c.args.name c.args.depth (coming c.args.feed.now) (coming c.take_literal.new.feed)) (sym (p.1 ∙ ap Err p.2))
           (λ x.
           ap judged (typed.tells.1 (var_slot n c.args.depth x) ∙ assigned n a x.outer eq.told.0 (coming g) (coming h) eq.told.1)
-          ∙ unvalued n a x.outer (coming h) c.in-err-value.field-0.0 bad.told.0);
-      spare = unmade _ _ c.from-residual-in-err-value.result c.from-residual-in-err-value.ensures.1;
+          ∙ unvalued n a x.outer (coming h) c.in_err-value.field-0.0 bad.told.0);
+      spare = unmade _ _ c.from_residual-in_err-value.result c.from_residual-in_err-value.ensures.1;
     }
 
-pub returns-in-err-take-mark-2 : goal.returns-in-err-take-mark-2
-returns-in-err-take-mark-2 c =
+pub returns-in_err-take_mark-2 : goal.returns-in_err-take_mark-2
+returns-in_err-take_mark-2 c =
     let src = feed_source c.args.feed.now in
     let n = named src c.args.name in
     let ns = arena_nodes c.annotation.new.arena in
-    let a = (phrase src ns c.in-ok-annotation.annotation).ann in
-    let v = c.in-ok-value.value in
-    let typed = c.in-ok-annotation.ensures in
-    let eq = c.in-ok-take-mark.ensures in
-    let lit = c.in-ok-value.ensures in
-    let bad = c.in-err-take-mark-2.ensures in
+    let a = (phrase src ns c.in_ok-annotation.annotation).ann in
+    let v = c.in_ok-value.value in
+    let typed = c.in_ok-annotation.ensures in
+    let eq = c.in_ok-take_mark.ensures in
+    let lit = c.in_ok-value.ensures in
+    let bad = c.in_err-take_mark-2.ensures in
     let g = c.annotation.new.feed in
-    let h = c.take-mark.new.feed in
-    let k = c.take-literal.new.feed in
+    let h = c.take_mark.new.feed in
+    let k = c.take_literal.new.feed in
     let same : feed_source h ≡ src = eq.source ∙ typed.kept.source in
-    let p = err_from_is_err_and c.from-residual-in-err-take-mark-2.result c.from-residual-in-err-take-mark-2.ensures.1 in
+    let p = err_from_is_err_and c.from_residual-in_err-take_mark-2.result c.from_residual-in_err-take_mark-2.ensures.1 in
     record {
       kept = kept_then typed.kept
           (kept_then (kept_taken {g = h} c.annotation.new.arena eq.source (let l = ap length eq.told.1 in omega arith))
           (kept_then (kept_taken {g = k} c.annotation.new.arena lit.source (let l = ap length lit.told in omega arith))
           (kept_taken c.annotation.new.arena bad.source (let l = ap length bad.told.1 in omega arith))));
-      tells = subst (VariableTells src ns c.args.name c.args.depth (coming c.args.feed.now) (coming c.take-mark-2.new.feed)) (sym (p.1 ∙ ap Err p.2))
+      tells = subst (VariableTells src ns c.args.name c.args.depth (coming c.args.feed.now) (coming c.take_mark-2.new.feed)) (sym (p.1 ∙ ap Err p.2))
           (λ x.
           ap judged (typed.tells.1 (var_slot n c.args.depth x) ∙ assigned n a x.outer eq.told.0 (coming g) (coming h) eq.told.1
           ∙ valued n a x.outer (literal_of src v.literal) v.place (coming h) (coming k) (subst (λ s. LiteralTold s (coming h) (coming k) (Ok v)) same lit.told))
-          ∙ no_line_end (awaits (join (tree.a_var n a v.place (literal_of src v.literal)) x.outer)) (coming k) c.in-err-take-mark-2.field-0.0 bad.told.0);
-      spare = unmade _ _ c.from-residual-in-err-take-mark-2.result c.from-residual-in-err-take-mark-2.ensures.1;
+          ∙ no_line_end (awaits (join (tree.a_var n a v.place (literal_of src v.literal)) x.outer)) (coming k) c.in_err-take_mark-2.field-0.0 bad.told.0);
+      spare = unmade _ _ c.from_residual-in_err-take_mark-2.result c.from_residual-in_err-take_mark-2.ensures.1;
     }
 
 pub returns : goal.returns
@@ -99,16 +99,16 @@ returns c =
     let src = feed_source c.args.feed.now in
     let n = named src c.args.name in
     let ns = arena_nodes c.annotation.new.arena in
-    let a = (phrase src ns c.in-ok-annotation.annotation).ann in
-    let v = c.in-ok-value.value in
-    let typed = c.in-ok-annotation.ensures in
-    let eq = c.in-ok-take-mark.ensures in
-    let lit = c.in-ok-value.ensures in
-    let end = c.in-ok-take-mark-2.ensures in
+    let a = (phrase src ns c.in_ok-annotation.annotation).ann in
+    let v = c.in_ok-value.value in
+    let typed = c.in_ok-annotation.ensures in
+    let eq = c.in_ok-take_mark.ensures in
+    let lit = c.in_ok-value.ensures in
+    let end = c.in_ok-take_mark-2.ensures in
     let g = c.annotation.new.feed in
-    let h = c.take-mark.new.feed in
-    let k = c.take-literal.new.feed in
-    let m = c.take-mark-2.new.feed in
+    let h = c.take_mark.new.feed in
+    let k = c.take_literal.new.feed in
+    let m = c.take_mark-2.new.feed in
     let st = c.store.ensures in
     let made = stored src ns (arena_nodes c.store.new.arena) _ c.store.result st.index st.nodes in
     let same : feed_source h ≡ src = eq.source ∙ typed.kept.source in

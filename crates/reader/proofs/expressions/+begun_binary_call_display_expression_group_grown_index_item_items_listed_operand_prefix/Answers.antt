@@ -43,8 +43,8 @@ begun-returns-in-Constant t c =
     let long = passed_long p in
     told_made (kept_passed n p) c.leaf-in-Constant.ensures.made (omega (arith, long)) (omega (arith, long)) (λ h q. ap (λ ts. limited 64 ts (want h)) p.first)
 
-pub prefix-returns-in-err-operand : goal.prefix-returns-in-err-operand
-prefix-returns-in-err-operand t c =
+pub prefix-returns-in_err-operand : goal.prefix-returns-in_err-operand
+prefix-returns-in_err-operand t c =
     let f = c.args.feed.now in
     let n = c.args.arena.now in
     let src = feed_source f in
@@ -52,10 +52,10 @@ prefix-returns-in-err-operand t c =
     let place = c.args.next.place in
     let face = faced src c.args.next (coming f) (sign o) c.requires.facing c.requires.kind in
     let p = passed face c.advance.ensures.coming c.advance.ensures.source in
-    let told = c.in-err-operand.ensures.told in
-    let deep : c.args.depth < 64 = omega (arith, c.requires.deep, c.if-depth-eq-MOST-LEVELS.false) in
+    let told = c.in_err-operand.ensures.told in
+    let deep : c.args.depth < 64 = omega (arith, c.requires.deep, c.if-depth-eq-MOST_LEVELS.false) in
     let reach : c.tight-reach.result ≡ tree.reach (prefix_of o) = c.tight-reach.ensures in
-    exit c.from-residual.result _ c.from-residual.ensures.1 (kept_then (kept_passed n p) told.kept)
+    exit c.from_residual.result _ c.from_residual.ensures.1 (kept_then (kept_passed n p) told.kept)
     (λ h q.
     let a = q.asked in
     ap (λ ts. judged (limited 64 ts (want h))) p.first
@@ -72,11 +72,11 @@ prefix-returns t c =
     let face = faced src c.args.next (coming f) (sign o) c.requires.facing c.requires.kind in
     let p = passed face c.advance.ensures.coming c.advance.ensures.source in
     let long = passed_long p in
-    let x = c.in-ok-operand.operand in
+    let x = c.in_ok-operand.operand in
     let g = c.advance.new.self in
-    let told = c.in-ok-operand.ensures.told in
-    let ends = c.in-ok-operand.ensures.ends in
-    let deep : c.args.depth < 64 = omega (arith, c.requires.deep, c.if-depth-eq-MOST-LEVELS.false) in
+    let told = c.in_ok-operand.ensures.told in
+    let ends = c.in_ok-operand.ensures.ends in
+    let deep : c.args.depth < 64 = omega (arith, c.requires.deep, c.if-depth-eq-MOST_LEVELS.false) in
     let reach : c.tight-reach.result ≡ tree.reach (prefix_of o) = c.tight-reach.ensures in
     let e = (phrase (feed_source g) (arena_nodes c.expression.new.arena) x.node).expr in
     told_made (kept_then (kept_passed n p) told.kept) c.made.ensures (omega (arith, long, told.goes.spare)) (omega (arith, long, told.goes.some))
@@ -89,22 +89,22 @@ prefix-returns t c =
     ∙ sheds_pre x.place (form_of x.form e) e place (prefix_of o) h (coming c.expression.new.feed) (ends (under place (prefix_of o) h) spot)
     ∙ ap (λ s. limited 64 (coming c.expression.new.feed) (have place (tree.prefix (prefix_of o)) (tree.pre place (prefix_of o) (phrase s (arena_nodes c.expression.new.arena) x.node).expr) h)) p.source)
 
-pub group-returns-in-err-take-mark : goal.group-returns-in-err-take-mark
-group-returns-in-err-take-mark t c =
+pub group-returns-in_err-take_mark : goal.group-returns-in_err-take_mark
+group-returns-in_err-take_mark t c =
     let f = c.args.feed.now in
     let n = c.args.arena.now in
     let src = feed_source f in
     let place = c.args.next.place in
     let face = faced src c.args.next (coming f) Kind.LeftRound c.requires.facing c.requires.kind in
     let p = passed face c.advance.ensures.coming c.advance.ensures.source in
-    let x = c.in-ok-inner.inner in
+    let x = c.in_ok-inner.inner in
     let g = c.advance.new.self in
-    let told = c.in-ok-inner.ensures.told in
-    let ends = c.in-ok-inner.ensures.ends in
-    let no = c.in-err-take-mark.ensures in
-    let deep : c.args.depth < 64 = omega (arith, c.requires.deep, c.if-depth-eq-MOST-LEVELS.false) in
+    let told = c.in_ok-inner.ensures.told in
+    let ends = c.in_ok-inner.ensures.ends in
+    let no = c.in_err-take_mark.ensures in
+    let deep : c.args.depth < 64 = omega (arith, c.requires.deep, c.if-depth-eq-MOST_LEVELS.false) in
     let e = (phrase (feed_source g) (arena_nodes c.expression.new.arena) x.node).expr in
-    exit c.from-residual-in-err-take-mark.result _ c.from-residual-in-err-take-mark.ensures.1
+    exit c.from_residual-in_err-take_mark.result _ c.from_residual-in_err-take_mark.ensures.1
     (kept_then (kept_passed n p) (kept_then told.kept (kept_still c.expression.new.arena no.told.1 no.source)))
     (λ h q.
     let spot : Spot 0 (c.args.depth + 1) (paren place h) = record { asked = refl; deep = omega (arith, q) } in
@@ -113,15 +113,15 @@ group-returns-in-err-take-mark t c =
     ∙ unclosed marks.Mark.RightRound (paren place h) x.place (form_of x.form e) e (λ i. have place tree.closed e h) (coming c.expression.new.feed) _ (λ i. refl) (ends (paren place h) spot) no.told.0)
 
 pub expression-loop-next-preserved : goal.expression-loop-next-preserved
-expression-loop-next-preserved t c = grew_more c.loop-next.invariant c.in-ok-read-2.ensures
+expression-loop-next-preserved t c = grew_more c.loop-next.invariant c.in_ok-read-2.ensures
 
-pub expression-returns-in-err-read-2 : goal.expression-returns-in-err-read-2
-expression-returns-in-err-read-2 t c =
-    let b = c.in-err-read-2.ensures in
-    let a = c.in-ok-read.ensures in
+pub expression-returns-in_err-read-2 : goal.expression-returns-in_err-read-2
+expression-returns-in_err-read-2 t c =
+    let b = c.in_err-read-2.ensures in
+    let a = c.in_ok-read.ensures in
     let k = kept_then a.kept (kept_then c.loop-next.invariant.kept b.kept) in
     record {
-      told = exit c.from-residual-in-err-read-2.result _ c.from-residual-in-err-read-2.ensures.1 k (grew_stop a c.loop-next.invariant b);
+      told = exit c.from_residual-in_err-read-2.result _ c.from_residual-in_err-read-2.ensures.1 k (grew_stop a c.loop-next.invariant b);
       ends = search rules;
     }
 
@@ -130,19 +130,19 @@ expression-returns t c =
     let x = c.loop-next.read in
     let e = (phrase (feed_source c.args.feed.now) (arena_nodes c.loop-next.arena) x.node).expr in
     record {
-      told = grew_told c.in-ok-read.ensures c.loop-next.invariant;
-      ends = λ h q. stuck_end x.place (form_of x.form e) e h (coming c.loop-next.feed) c.in-default.ensures;
+      told = grew_told c.in_ok-read.ensures c.loop-next.invariant;
+      ends = λ h q. stuck_end x.place (form_of x.form e) e h (coming c.loop-next.feed) c.in_default.ensures;
     }
 
-pub expression-returns-in-default-growth-of : goal.expression-returns-in-default-growth-of
-expression-returns-in-default-growth-of t c =
+pub expression-returns-in_default-growth_of : goal.expression-returns-in_default-growth_of
+expression-returns-in_default-growth_of t c =
     let x = c.loop-next.read in
     let f = c.loop-next.feed in
     let n = c.in-Some.next in
     let e = (phrase (feed_source c.args.feed.now) (arena_nodes c.loop-next.arena) x.node).expr in
-    let none = sym c.growth-of.ensures ∙ c.in-default-growth-of.is in
+    let none = sym c.growth_of.ensures ∙ c.in_default-growth_of.is in
     record {
-      told = grew_told c.in-ok-read.ensures c.loop-next.invariant;
+      told = grew_told c.in_ok-read.ensures c.loop-next.invariant;
       ends = λ h q.
           stuck_next x.place (form_of x.form e) e h (next_token (feed_source f) n) (coming f) (drop 1 (coming f)) c.in-Some.ensures
           (rests (feed_source f) n.place n.kind x.form c.args.asks x.place e h q.asked none);
@@ -151,12 +151,12 @@ expression-returns-in-default-growth-of t c =
 pub expression-grown-requires : goal.expression-grown-requires
 expression-grown-requires t c =
     let inv = c.loop-next.invariant in
-    let room = room_on (kept_then c.in-ok-read.ensures.kept inv.kept) c.requires.room in
-    let grows = goes_on c.in-Some.next.kind c.loop-next.read.form c.args.asks c.in-Some-growth-of.growth (sym c.growth-of.ensures ∙ c.in-Some-growth-of.is) in
+    let room = room_on (kept_then c.in_ok-read.ensures.kept inv.kept) c.requires.room in
+    let grows = goes_on c.in-Some.next.kind c.loop-next.read.form c.args.asks c.in-Some-growth_of.growth (sym c.growth_of.ensures ∙ c.in-Some-growth_of.is) in
     (search rules, (room, (c.requires.deep, (c.requires.most, (inv.stored, (c.in-Some.ensures, grows))))))
 
-pub binary-returns-in-err-right : goal.binary-returns-in-err-right
-binary-returns-in-err-right t c =
+pub binary-returns-in_err-right : goal.binary-returns-in_err-right
+binary-returns-in_err-right t c =
     let f = c.args.feed.now in
     let n = c.args.arena.now in
     let src = feed_source f in
@@ -168,8 +168,8 @@ binary-returns-in-err-right t c =
     let p = passed {f = f} {g = g} face c.advance.ensures.coming c.advance.ensures.source in
     let level : c.level.result ≡ tree.level (tree.rank (binary_of o)) = c.level.ensures.value ∙ ap tree.level c.of-rank.ensures in
     let tight = ap (leb (tree.left (tree.rank (binary_of o)))) (tight_same x.form e) ∙ c.requires.tight in
-    let told = c.in-err-right.ensures.told in
-    exit c.from-residual.result _ c.from-residual.ensures.1 (kept_then (kept_passed n p) told.kept)
+    let told = c.in_err-right.ensures.told in
+    exit c.from_residual.result _ c.from_residual.ensures.1 (kept_then (kept_passed n p) told.kept)
     (λ h q.
     let a = q.asked in
     ap (λ ts. judged (limited 64 ts (having src (arena_nodes n) x h))) p.first
@@ -189,7 +189,7 @@ binary-made-requires t c =
     let p = passed {f = f} {g = g} face c.advance.ensures.coming c.advance.ensures.source in
     let level : c.level.result ≡ tree.level (tree.rank (binary_of o)) = c.level.ensures.value ∙ ap tree.level c.of-rank.ensures in
     let tight = ap (leb (tree.left (tree.rank (binary_of o)))) (tight_same x.form e) ∙ c.requires.tight in
-    let told = c.in-ok-right.ensures.told in
+    let told = c.in_ok-right.ensures.told in
     let long = passed_long p in
     let kept = kept_then (kept_passed n p) told.kept in
     let more = kept_long kept in
@@ -211,11 +211,11 @@ binary-returns t c =
     let p = passed {f = f} {g = g} face c.advance.ensures.coming c.advance.ensures.source in
     let level : c.level.result ≡ tree.level (tree.rank (binary_of o)) = c.level.ensures.value ∙ ap tree.level c.of-rank.ensures in
     let tight = ap (leb (tree.left (tree.rank (binary_of o)))) (tight_same x.form e) ∙ c.requires.tight in
-    let told = c.in-ok-right.ensures.told in
-    let ends = c.in-ok-right.ensures.ends in
+    let told = c.in_ok-right.ensures.told in
+    let ends = c.in_ok-right.ensures.ends in
     let long = passed_long p in
     let kept = kept_then (kept_passed n p) told.kept in
-    let y = c.in-ok-right.right in
+    let y = c.in_ok-right.right in
     let us = coming c.expression.new.feed in
     let ns = arena_nodes c.expression.new.arena in
     let e' = (phrase (feed_source g) ns y.node).expr in
@@ -237,8 +237,8 @@ call-made-requires t c =
     let f = c.args.feed.now in
     let n = c.args.arena.now in
     let src = feed_source f in
-    let told = c.in-ok-arguments.ensures.told in
-    let spare = c.in-ok-arguments.ensures.spare in
+    let told = c.in_ok-arguments.ensures.told in
+    let spare = c.in_ok-arguments.ensures.spare in
     let more = kept_long told.kept in
     record { room = room_left told.kept c.requires.room (omega (arith, spare)); placed = both_before (omega (arith, more, c.requires.stored)) told.goes.stored }
 
@@ -247,39 +247,39 @@ call-returns t c =
     let f = c.args.feed.now in
     let n = c.args.arena.now in
     let src = feed_source f in
-    let told = c.in-ok-arguments.ensures.told in
-    let spare = c.in-ok-arguments.ensures.spare in
+    let told = c.in_ok-arguments.ensures.told in
+    let spare = c.in_ok-arguments.ensures.spare in
     let more = kept_long told.kept in
     let x = c.args.read in
     let e = (phrase src (arena_nodes n) x.node).expr in
     let us = coming c.listed.new.feed in
     let i = x.place in
     let face = faced src c.args.next (coming f) Kind.LeftRound c.requires.facing c.requires.kind in
-    let deep : c.args.depth < 64 = omega (arith, c.requires.deep, c.if-depth-eq-MOST-LEVELS.false) in
+    let deep : c.args.depth < 64 = omega (arith, c.requires.deep, c.if-depth-eq-MOST_LEVELS.false) in
     told_made told.kept c.made.ensures spare (omega (arith, spare, more))
     (λ h q.
     ap (λ ts. limited 64 ts (having src (arena_nodes n) x h)) face
     ∙ pars i (form_of x.form e) e h c.args.next.place (drop 1 (coming f)) (callable_same x.form e ∙ c.requires.callable) (shallow h q deep)
     ∙ told.goes.goes (of_call i e) h (record { mark = refl; deep = q })
-    ∙ ap (λ a. limited 64 us (have i tree.closed (tree.call i a.expr (phrase src (arena_nodes c.listed.new.arena) c.in-ok-arguments.arguments).exprs) h)) (sym (kept_phrase src x.node told.kept c.requires.stored)))
+    ∙ ap (λ a. limited 64 us (have i tree.closed (tree.call i a.expr (phrase src (arena_nodes c.listed.new.arena) c.in_ok-arguments.arguments).exprs) h)) (sym (kept_phrase src x.node told.kept c.requires.stored)))
 
 pub display-returns : goal.display-returns
 display-returns t c =
     let f = c.args.feed.now in
     let src = feed_source f in
-    let told = c.in-ok-elements.ensures.told in
-    let spare = c.in-ok-elements.ensures.spare in
+    let told = c.in_ok-elements.ensures.told in
+    let spare = c.in_ok-elements.ensures.spare in
     let more = kept_long told.kept in
     let face = faced src c.args.next (coming f) Kind.LeftSquare c.requires.facing c.requires.kind in
-    let deep : c.args.depth < 64 = omega (arith, c.requires.deep, c.if-depth-eq-MOST-LEVELS.false) in
+    let deep : c.args.depth < 64 = omega (arith, c.requires.deep, c.if-depth-eq-MOST_LEVELS.false) in
     told_made told.kept c.made.ensures spare (omega (arith, spare, more))
     (λ h q.
     ap (λ ts. limited 64 ts (want h)) face
     ∙ lists h c.args.next.place (drop 1 (coming f)) (shallow h q deep)
     ∙ told.goes.goes (of_list c.args.next.place) h (record { mark = refl; deep = q }))
 
-pub index-returns-in-err-take-mark : goal.index-returns-in-err-take-mark
-index-returns-in-err-take-mark t c =
+pub index-returns-in_err-take_mark : goal.index-returns-in_err-take_mark
+index-returns-in_err-take_mark t c =
     let f = c.args.feed.now in
     let n = c.args.arena.now in
     let src = feed_source f in
@@ -289,15 +289,15 @@ index-returns-in-err-take-mark t c =
     let face = faced src c.args.next (coming f) Kind.LeftSquare c.requires.facing c.requires.kind in
     let p = passed {f = f} {g = g} face c.advance.ensures.coming c.advance.ensures.source in
     let tight = ap (leb 8) (tight_same x.form e) ∙ c.requires.tight in
-    let deep : c.args.depth < 64 = omega (arith, c.requires.deep, c.if-depth-eq-MOST-LEVELS.false) in
-    let told = c.in-ok-index.ensures.told in
-    let ends = c.in-ok-index.ensures.ends in
-    let y = c.in-ok-index.index in
+    let deep : c.args.depth < 64 = omega (arith, c.requires.deep, c.if-depth-eq-MOST_LEVELS.false) in
+    let told = c.in_ok-index.ensures.told in
+    let ends = c.in_ok-index.ensures.ends in
+    let y = c.in_ok-index.index in
     let i = x.place in
     let ns = arena_nodes c.expression.new.arena in
     let e' = (phrase (feed_source g) ns y.node).expr in
-    let no = c.in-err-take-mark.ensures in
-    exit c.from-residual-in-err-take-mark.result _ c.from-residual-in-err-take-mark.ensures.1
+    let no = c.in_err-take_mark.ensures in
+    exit c.from_residual-in_err-take_mark.result _ c.from_residual-in_err-take_mark.ensures.1
     (kept_then (kept_passed n p) (kept_then told.kept (kept_still c.expression.new.arena no.told.1 no.source)))
     (λ h q.
     let spot : Spot 0 (c.args.depth + 1) (index i e h) = record { asked = refl; deep = omega (arith, q) } in
@@ -316,15 +316,15 @@ index-made-requires t c =
     let face = faced src c.args.next (coming f) Kind.LeftSquare c.requires.facing c.requires.kind in
     let p = passed {f = f} {g = g} face c.advance.ensures.coming c.advance.ensures.source in
     let tight = ap (leb 8) (tight_same x.form e) ∙ c.requires.tight in
-    let deep : c.args.depth < 64 = omega (arith, c.requires.deep, c.if-depth-eq-MOST-LEVELS.false) in
-    let told = c.in-ok-index.ensures.told in
-    let ends = c.in-ok-index.ensures.ends in
-    let y = c.in-ok-index.index in
+    let deep : c.args.depth < 64 = omega (arith, c.requires.deep, c.if-depth-eq-MOST_LEVELS.false) in
+    let told = c.in_ok-index.ensures.told in
+    let ends = c.in_ok-index.ensures.ends in
+    let y = c.in_ok-index.index in
     let i = x.place in
     let ns = arena_nodes c.expression.new.arena in
     let e' = (phrase (feed_source g) ns y.node).expr in
-    let us = c.take-mark.new.feed in
-    let r : Passed (at (tree.mark tree.rbracket) c.in-ok-take-mark.ensures.told.0) c.expression.new.feed us = record { first = c.in-ok-take-mark.ensures.told.1; source = c.in-ok-take-mark.ensures.source } in
+    let us = c.take_mark.new.feed in
+    let r : Passed (at (tree.mark tree.rbracket) c.in_ok-take_mark.ensures.told.0) c.expression.new.feed us = record { first = c.in_ok-take_mark.ensures.told.1; source = c.in_ok-take_mark.ensures.source } in
     let long = passed_long p in
     let last = passed_long r in
     let kept = kept_then (kept_passed n p) (kept_then told.kept (kept_passed c.expression.new.arena r)) in
@@ -345,15 +345,15 @@ index-returns t c =
     let face = faced src c.args.next (coming f) Kind.LeftSquare c.requires.facing c.requires.kind in
     let p = passed {f = f} {g = g} face c.advance.ensures.coming c.advance.ensures.source in
     let tight = ap (leb 8) (tight_same x.form e) ∙ c.requires.tight in
-    let deep : c.args.depth < 64 = omega (arith, c.requires.deep, c.if-depth-eq-MOST-LEVELS.false) in
-    let told = c.in-ok-index.ensures.told in
-    let ends = c.in-ok-index.ensures.ends in
-    let y = c.in-ok-index.index in
+    let deep : c.args.depth < 64 = omega (arith, c.requires.deep, c.if-depth-eq-MOST_LEVELS.false) in
+    let told = c.in_ok-index.ensures.told in
+    let ends = c.in_ok-index.ensures.ends in
+    let y = c.in_ok-index.index in
     let i = x.place in
     let ns = arena_nodes c.expression.new.arena in
     let e' = (phrase (feed_source g) ns y.node).expr in
-    let us = c.take-mark.new.feed in
-    let r : Passed (at (tree.mark tree.rbracket) c.in-ok-take-mark.ensures.told.0) c.expression.new.feed us = record { first = c.in-ok-take-mark.ensures.told.1; source = c.in-ok-take-mark.ensures.source } in
+    let us = c.take_mark.new.feed in
+    let r : Passed (at (tree.mark tree.rbracket) c.in_ok-take_mark.ensures.told.0) c.expression.new.feed us = record { first = c.in_ok-take_mark.ensures.told.1; source = c.in_ok-take_mark.ensures.source } in
     let long = passed_long p in
     let last = passed_long r in
     let kept = kept_then (kept_passed n p) (kept_then told.kept (kept_passed c.expression.new.arena r)) in
@@ -369,45 +369,45 @@ index-returns t c =
 
 pub item-store-requires : goal.item-store-requires
 item-store-requires t c =
-    let told = c.in-ok-last.ensures.told in
+    let told = c.in_ok-last.ensures.told in
     let more = kept_long told.kept in
     record { room = room_left told.kept c.requires.room told.goes.spare; placed = both_before (omega (arith, more, c.requires.stored)) told.goes.stored }
 
 pub item-returns : goal.item-returns
 item-returns t c =
-    let told = c.in-ok-last.ensures.told in
-    item_told c.args.list c.in-ok-last.last c.requires.stored told c.in-ok-last.ensures.ends c.store.ensures.index c.store.ensures.nodes c.store.ensures.limit
+    let told = c.in_ok-last.ensures.told in
+    item_told c.args.list c.in_ok-last.last c.requires.stored told c.in_ok-last.ensures.ends c.store.ensures.index c.store.ensures.nodes c.store.ensures.limit
 
-pub items-returns-in-err-list-2 : goal.items-returns-in-err-list-2
-items-returns-in-err-list-2 t c =
+pub items-returns-in_err-list-2 : goal.items-returns-in_err-list-2
+items-returns-in_err-list-2 t c =
     let r = c.loop-feed-test.ensures in
-    let a = c.in-ok-list.ensures in
-    let b = c.in-err-list-2.ensures in
+    let a = c.in_ok-list.ensures in
+    let b = c.in_err-list-2.ensures in
     let p : Passed _ c.loop-feed.feed c.passes.new.feed = record { first = r.told.1; source = r.source } in
-    exit_list c.from-residual-in-err-list-2.result _ c.from-residual-in-err-list-2.ensures.1 (kept_then a.kept (kept_then c.loop-feed.invariant.kept (kept_then (kept_passed c.loop-feed.arena p) b.kept)))
+    exit_list c.from_residual-in_err-list-2.result _ c.from_residual-in_err-list-2.ensures.1 (kept_then a.kept (kept_then c.loop-feed.invariant.kept (kept_then (kept_passed c.loop-feed.arena p) b.kept)))
     (λ k h q. listing_stop a c.loop-feed.invariant p b k h q.0)
 
 pub items-loop-feed-preserved : goal.items-loop-feed-preserved
 items-loop-feed-preserved t c =
     let r = c.loop-feed-test.ensures in
-    listing_more c.loop-feed.invariant (record { first = r.told.1; source = r.source }) c.in-ok-list-2.ensures
+    listing_more c.loop-feed.invariant (record { first = r.told.1; source = r.source }) c.in_ok-list-2.ensures
 
-pub items-returns-in-err-take-mark : goal.items-returns-in-err-take-mark
-items-returns-in-err-take-mark t c =
+pub items-returns-in_err-take_mark : goal.items-returns-in_err-take_mark
+items-returns-in_err-take_mark t c =
     let no = c.loop-feed-test.ensures in
-    let a = c.in-ok-list.ensures in
-    let b = c.in-err-take-mark.ensures in
+    let a = c.in_ok-list.ensures in
+    let b = c.in_err-take_mark.ensures in
     let m = c.loop-feed.arena in
-    exit_list c.from-residual-in-err-take-mark.result _ c.from-residual-in-err-take-mark.ensures.1
-    (kept_then a.kept (kept_then c.loop-feed.invariant.kept (kept_then (kept_still {f = c.loop-feed.feed} {g = c.passes.new.feed} m no.told.0 no.source) (kept_still {f = c.passes.new.feed} {g = c.take-mark.new.feed} m b.told.1 b.source))))
-    (λ k h q. ap judged (listing_told a c.loop-feed.invariant k h q.0) ∙ unlisted c.args.close k h _ (coming c.loop-feed.feed) _ q.1 no.told.1 (subst (λ ts. NoMark c.args.close ts c.in-err-take-mark.field-0.0) no.told.0 b.told.0))
+    exit_list c.from_residual-in_err-take_mark.result _ c.from_residual-in_err-take_mark.ensures.1
+    (kept_then a.kept (kept_then c.loop-feed.invariant.kept (kept_then (kept_still {f = c.loop-feed.feed} {g = c.passes.new.feed} m no.told.0 no.source) (kept_still {f = c.passes.new.feed} {g = c.take_mark.new.feed} m b.told.1 b.source))))
+    (λ k h q. ap judged (listing_told a c.loop-feed.invariant k h q.0) ∙ unlisted c.args.close k h _ (coming c.loop-feed.feed) _ q.1 no.told.1 (subst (λ ts. NoMark c.args.close ts c.in_err-take_mark.field-0.0) no.told.0 b.told.0))
 
 pub items-returns : goal.items-returns
 items-returns t c =
     let no = c.loop-feed-test.ensures in
-    let a = c.in-ok-list.ensures in
-    let b = c.in-ok-take-mark.ensures in
-    listing_end {g = c.loop-feed.feed} {g' = c.passes.new.feed} {k = c.take-mark.new.feed} c.args.close a c.loop-feed.invariant no.told.0 no.told.1 no.source (record { first = b.told.1; source = b.source })
+    let a = c.in_ok-list.ensures in
+    let b = c.in_ok-take_mark.ensures in
+    listing_end {g = c.loop-feed.feed} {g' = c.passes.new.feed} {k = c.take_mark.new.feed} c.args.close a c.loop-feed.invariant no.told.0 no.told.1 no.source (record { first = b.told.1; source = b.source })
 
 pub listed-returns-then-passes : goal.listed-returns-then-passes
 listed-returns-then-passes t c =

@@ -15,8 +15,8 @@ use Rattle.reader.proofs.Steps.{Passed, exit, faced, kept_passed, kept_still, pa
 use Rattle.reader.proofs.Storing.{kept_then}
 use Rattle.reader.proofs.expressions.member.Goals as goal
 
-pub returns-in-err-name : goal.returns-in-err-name
-returns-in-err-name c =
+pub returns-in_err-name : goal.returns-in_err-name
+returns-in_err-name c =
     let f = c.args.feed.now in
     let n = c.args.arena.now in
     let src = feed_source f in
@@ -25,8 +25,8 @@ returns-in-err-name c =
     let e = (phrase src (arena_nodes n) x.node).expr in
     let face = faced src c.args.next (coming f) Kind.Dot c.requires.facing c.requires.kind in
     let p = passed {f = f} {g = g} face c.advance.ensures.coming c.advance.ensures.source in
-    let no = c.in-err-name.ensures in
-    exit c.from-residual.result _ c.from-residual.ensures.1 (kept_then (kept_passed n p) (kept_still n no.told.1 no.source))
+    let no = c.in_err-name.ensures in
+    exit c.from_residual.result _ c.from_residual.ensures.1 (kept_then (kept_passed n p) (kept_still n no.told.1 no.source))
     (λ h q.
     ap (λ ts. judged (limited 64 ts (having src (arena_nodes n) x h))) p.first
     ∙ ap judged (dots x.place (form_of x.form e) e h c.args.next.place (coming g) (ap (leb 8) (tight_same x.form e) ∙ c.requires.tight))
@@ -42,8 +42,8 @@ returns c =
     let e = (phrase src (arena_nodes n) x.node).expr in
     let face = faced src c.args.next (coming f) Kind.Dot c.requires.facing c.requires.kind in
     let p = passed {f = f} {g = g} face c.advance.ensures.coming c.advance.ensures.source in
-    let name = c.in-ok-name.name in
-    let r : Passed (at (tree.name (spelled (feed_source g) name)) name.at) g c.take-name.new.feed = record { first = c.in-ok-name.ensures.told; source = c.in-ok-name.ensures.source } in
+    let name = c.in_ok-name.name in
+    let r : Passed (at (tree.name (spelled (feed_source g) name)) name.at) g c.take_name.new.feed = record { first = c.in_ok-name.ensures.told; source = c.in_ok-name.ensures.source } in
     let long = passed_long p in
     let more = passed_long r in
     told_made (kept_then (kept_passed n p) (kept_passed n r)) c.made.ensures (omega (arith, long, more)) (omega (arith, long, more))
@@ -51,4 +51,4 @@ returns c =
     ap (λ ts. limited 64 ts (having src (arena_nodes n) x h)) p.first
     ∙ dots x.place (form_of x.form e) e h c.args.next.place (coming g) (ap (leb 8) (tight_same x.form e) ∙ c.requires.tight)
     ∙ ap (λ ts. limited 64 ts (naming (field x.place e h))) r.first
-    ∙ ap (λ s. limited 64 (coming c.take-name.new.feed) (have x.place tree.member (tree.mem x.place e (spelled s name)) h)) p.source)
+    ∙ ap (λ s. limited 64 (coming c.take_name.new.feed) (have x.place tree.member (tree.mem x.place e (spelled s name)) h)) p.source)

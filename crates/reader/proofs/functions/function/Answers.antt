@@ -25,43 +25,43 @@ signed src p m a x = record { place = p; name = named src a.name; list = (phrase
 abbrev headed : {d : ℕ} → Ann → SignedAt d → FunctionOf d
 headed a x = record { place = x.place; name = x.name; list = x.list; result = a; outer = x.outer; deep = x.deep }
 
-pub returns-in-err-result : goal.returns-in-err-result
-returns-in-err-result c =
+pub returns-in_err-result : goal.returns-in_err-result
+returns-in_err-result c =
     let src = feed_source c.args.feed.now in
-    let ok = c.in-ok-name.ensures in
-    let bad = c.in-err-result.ensures in
-    stopped_behind c.from-residual-in-err-result.result _ c.from-residual-in-err-result.ensures.1
+    let ok = c.in_ok-name.ensures in
+    let bad = c.in_err-result.ensures in
+    stopped_behind c.from_residual-in_err-result.result _ c.from_residual-in_err-result.ensures.1
     (led ok (λ (x : OuterAt c.args.depth). x)) bad.kept
-    (λ x. bad.leads (signed src c.args.place c.name-and-parameters.new.arena c.in-ok-name.field-0 x))
+    (λ x. bad.leads (signed src c.args.place c.name_and_parameters.new.arena c.in_ok-name.field-0 x))
 
-pub returns-in-err-declarations : goal.returns-in-err-declarations
-returns-in-err-declarations c =
+pub returns-in_err-declarations : goal.returns-in_err-declarations
+returns-in_err-declarations c =
     let src = feed_source c.args.feed.now in
-    let g = c.name-and-parameters.new.feed in
-    let m = c.name-and-parameters.new.arena in
-    let l = c.result-type.new.arena in
-    let ok = c.in-ok-name.ensures in
-    let typed = c.in-ok-result.ensures in
-    let bad = c.in-err-declarations.ensures in
-    let here : OuterAt c.args.depth → SignedAt c.args.depth = signed src c.args.place m c.in-ok-name.field-0 in
-    stopped_behind c.from-residual-in-err-declarations.result _ c.from-residual-in-err-declarations.ensures.1
+    let g = c.name_and_parameters.new.feed in
+    let m = c.name_and_parameters.new.arena in
+    let l = c.result_type.new.arena in
+    let ok = c.in_ok-name.ensures in
+    let typed = c.in_ok-result.ensures in
+    let bad = c.in_err-declarations.ensures in
+    let here : OuterAt c.args.depth → SignedAt c.args.depth = signed src c.args.place m c.in_ok-name.field-0 in
+    stopped_behind c.from_residual-in_err-declarations.result _ c.from_residual-in_err-declarations.ensures.1
     (along (led ok (λ (x : OuterAt c.args.depth). x)) (led typed here)) bad.kept
-    (λ x. bad.leads (headed (phrase (feed_source g) (arena_nodes l) c.in-ok-result.result).ann (here x)))
+    (λ x. bad.leads (headed (phrase (feed_source g) (arena_nodes l) c.in_ok-result.result).ann (here x)))
 
 pub store-requires : goal.store-requires
 store-requires c =
-    let ok = c.in-ok-name.ensures in
-    let typed = c.in-ok-result.ensures in
-    let read = c.in-ok-declarations.ensures in
+    let ok = c.in_ok-name.ensures in
+    let typed = c.in_ok-result.ensures in
+    let read = c.in_ok-declarations.ensures in
     let first = ok.leads.stored in
     let second = typed.leads.stored in
     let third = read.leads.stored in
     let long = kept_long typed.kept in
     let more = kept_long read.kept in
-    let k = length (arena_nodes c.function-body.new.arena) in
-    let i = c.in-ok-name.field-0.parameters in
-    let j = c.in-ok-result.result in
-    let a = c.in-ok-declarations.field-0 in
+    let k = length (arena_nodes c.function_body.new.arena) in
+    let i = c.in_ok-name.field-0.parameters in
+    let j = c.in_ok-result.result in
+    let a = c.in_ok-declarations.field-0 in
     let last : (ltb a.declarations k && ltb a.statements k) ≡ true = both_before third.0 third.1 in
     let three : (ltb j k && (ltb a.declarations k && ltb a.statements k)) ≡ true = ap (λ z. z && (ltb a.declarations k && ltb a.statements k)) (lt-ltb j k (omega (arith, second, more))) ∙ last in
     record {
@@ -73,19 +73,19 @@ pub returns : goal.returns
 returns c =
     let src = feed_source c.args.feed.now in
     let p = c.args.place in
-    let g = c.name-and-parameters.new.feed in
-    let h = c.result-type.new.feed in
-    let k = c.function-body.new.feed in
+    let g = c.name_and_parameters.new.feed in
+    let h = c.result_type.new.feed in
+    let k = c.function_body.new.feed in
     let n = c.args.arena.now in
-    let m = c.name-and-parameters.new.arena in
-    let l = c.result-type.new.arena in
-    let q = c.function-body.new.arena in
-    let a = c.in-ok-name.field-0 in
-    let j = c.in-ok-result.result in
-    let b = c.in-ok-declarations.field-0 in
-    let ok = c.in-ok-name.ensures in
-    let typed = c.in-ok-result.ensures in
-    let read = c.in-ok-declarations.ensures in
+    let m = c.name_and_parameters.new.arena in
+    let l = c.result_type.new.arena in
+    let q = c.function_body.new.arena in
+    let a = c.in_ok-name.field-0 in
+    let j = c.in_ok-result.result in
+    let b = c.in_ok-declarations.field-0 in
+    let ok = c.in_ok-name.ensures in
+    let typed = c.in_ok-result.ensures in
+    let read = c.in_ok-declarations.ensures in
     let here : OuterAt c.args.depth → SignedAt c.args.depth = signed src p m a in
     let result = (phrase (feed_source g) (arena_nodes l) j).ann in
     let from_g : feed_source g ≡ src = ok.kept.source in

@@ -15,13 +15,13 @@ use Rattle.reader.proofs.functions.global.Goals as goal
 pub returns : goal.returns
 returns c =
     let f = c.args.feed.now in
-    let g = c.take-name.new.feed in
-    let h = c.take-mark.new.feed in
+    let g = c.take_name.new.feed in
+    let h = c.take_mark.new.feed in
     let n = c.args.arena.now in
     let p = c.args.place in
-    let name = c.in-ok-name.name in
-    let ok = c.in-ok-name.ensures in
-    let end = c.in-ok-take-mark.ensures in
+    let name = c.in_ok-name.name in
+    let ok = c.in_ok-name.ensures in
+    let end = c.in_ok-take_mark.ensures in
     let begun : Passed (at (tree.name (spelled (feed_source f) name)) name.at) f g = record { first = ok.told; source = ok.source } in
     let ended : Passed (at (tree.mark tree.newline) end.told.0) g h = record { first = end.told.1; source = end.source } in
     let next : OuterAt c.args.depth → State = λ x. awaits (join (tree.a_global p (named (feed_source f) name)) x.outer) in

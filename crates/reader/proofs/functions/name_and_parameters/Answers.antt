@@ -13,32 +13,32 @@ use Rattle.reader.proofs.Leading.{along, led, stopped_behind, told_ok}
 use Rattle.reader.proofs.Steps.{Passed, passed_long}
 use Rattle.reader.proofs.functions.name_and_parameters.Goals as goal
 
-pub returns-in-err-parameters : goal.returns-in-err-parameters
-returns-in-err-parameters c =
+pub returns-in_err-parameters : goal.returns-in_err-parameters
+returns-in_err-parameters c =
     let f = c.args.feed.now in
-    let g = c.take-name.new.feed in
+    let g = c.take_name.new.feed in
     let d = c.args.depth in
     let p = c.args.place in
-    let name = c.in-ok-name.name in
-    let ok = c.in-ok-name.ensures in
-    let bad = c.in-err-parameters.ensures in
+    let name = c.in_ok-name.name in
+    let ok = c.in_ok-name.ensures in
+    let bad = c.in_err-parameters.ensures in
     let begun : Passed (at (tree.name (spelled (feed_source f) name)) name.at) f g = record { first = ok.told; source = ok.source } in
-    stopped_behind c.from-residual-in-err-parameters.result _ c.from-residual-in-err-parameters.ensures.1
+    stopped_behind c.from_residual-in_err-parameters.result _ c.from_residual-in_err-parameters.ensures.1
     (named_on c.args.arena.now name (λ (x : OuterAt d). for_def p x.outer) begun) bad.kept
     (λ x. bad.leads (record { place = p; name = named (feed_source f) name; outer = x.outer; deep = x.deep }))
 
 pub returns : goal.returns
 returns c =
     let f = c.args.feed.now in
-    let g = c.take-name.new.feed in
+    let g = c.take_name.new.feed in
     let h = c.parameters.new.feed in
     let m = c.parameters.new.arena in
     let d = c.args.depth in
     let p = c.args.place in
-    let name = c.in-ok-name.name in
-    let i = c.in-ok-parameters.parameters in
-    let ok = c.in-ok-name.ensures in
-    let told = c.in-ok-parameters.ensures in
+    let name = c.in_ok-name.name in
+    let i = c.in_ok-parameters.parameters in
+    let ok = c.in_ok-name.ensures in
+    let told = c.in_ok-parameters.ensures in
     let begun : Passed (at (tree.name (spelled (feed_source f) name)) name.at) f g = record { first = ok.told; source = ok.source } in
     let here : OuterAt d → FunctionAt d = λ x. record { place = p; name = named (feed_source f) name; outer = x.outer; deep = x.deep } in
     let long = passed_long begun in

@@ -23,15 +23,15 @@ use Rattle.reader.proofs.functions.result_type.Goals as goal
 abbrev slot_of : {d : ℕ} → SignedAt d → SlotAt d
 slot_of x = record { slot = of_result x.place x.name x.list x.outer; deep = x.deep }
 
-pub returns-in-err-result : goal.returns-in-err-result
-returns-in-err-result c =
+pub returns-in_err-result : goal.returns-in_err-result
+returns-in_err-result c =
     let f = c.args.feed.now in
-    let g = c.take-mark.new.feed in
-    let ok = c.in-ok-take-mark.ensures in
-    let bad = c.in-err-result.ensures in
+    let g = c.take_mark.new.feed in
+    let ok = c.in_ok-take_mark.ensures in
+    let bad = c.in_err-result.ensures in
     let begun : Passed (at (tree.mark tree.arrow) ok.told.0) f g = record { first = ok.told.1; source = ok.source } in
     let next : SignedAt c.args.depth → State = λ x. typing (slot_of x).slot in
-    stopped_behind c.from-residual-in-err-result.result _ c.from-residual-in-err-result.ensures.1
+    stopped_behind c.from_residual-in_err-result.result _ c.from_residual-in_err-result.ensures.1
     (stepped c.args.arena.now (λ x. seq tree.arrow [] (next x)) next begun (λ x. refl)) bad.kept
     (λ x. bad.tells (slot_of x))
 
@@ -39,20 +39,20 @@ returns-in-err-result c =
 no_end : {d : ℕ} (x : SignedAt d) (a : Ann) (ts : List Token) (e : Stop) → NoMark Mark.Colon ts e → judged (limited 64 ts (typed a (slot_of x).slot)) ≡ stop_of e
 no_end x a ts e = no_mark_here Mark.Colon (λ q. block_of (base (locals x.place x.name x.list a tree.no_decls x.outer) tree.empty)) (typed a (slot_of x).slot) ts e refl (λ t h. ap (λ y. either y none) h)
 
-pub returns-in-err-take-mark-2 : goal.returns-in-err-take-mark-2
-returns-in-err-take-mark-2 c =
+pub returns-in_err-take_mark-2 : goal.returns-in_err-take_mark-2
+returns-in_err-take_mark-2 c =
     let f = c.args.feed.now in
-    let g = c.take-mark.new.feed in
+    let g = c.take_mark.new.feed in
     let h = c.annotation.new.feed in
     let m = c.annotation.new.arena in
-    let ok = c.in-ok-take-mark.ensures in
-    let read = c.in-ok-result.ensures in
-    let bad = c.in-err-take-mark-2.ensures in
+    let ok = c.in_ok-take_mark.ensures in
+    let read = c.in_ok-result.ensures in
+    let bad = c.in_err-take_mark-2.ensures in
     let begun : Passed (at (tree.mark tree.arrow) ok.told.0) f g = record { first = ok.told.1; source = ok.source } in
     let next : SignedAt c.args.depth → State = λ x. typing (slot_of x).slot in
-    let a = (phrase (feed_source g) (arena_nodes m) c.in-ok-result.result).ann in
+    let a = (phrase (feed_source g) (arena_nodes m) c.in_ok-result.result).ann in
     let typed_on : Along (λ x. limited 64 (coming g) (next x)) (λ x. limited 64 (coming h) (typed a (slot_of x).slot)) g c.args.arena.now h m = record { kept = read.kept; goes = λ x. read.tells.1 (slot_of x) } in
-    stopped_behind c.from-residual-in-err-take-mark-2.result _ c.from-residual-in-err-take-mark-2.ensures.1
+    stopped_behind c.from_residual-in_err-take_mark-2.result _ c.from_residual-in_err-take_mark-2.ensures.1
     (along (stepped c.args.arena.now (λ x. seq tree.arrow [] (next x)) next begun (λ x. refl)) typed_on)
     (kept_still m bad.told.1 bad.source)
     (λ x. no_end x a (coming h) _ bad.told.0)
@@ -60,14 +60,14 @@ returns-in-err-take-mark-2 c =
 pub returns : goal.returns
 returns c =
     let f = c.args.feed.now in
-    let g = c.take-mark.new.feed in
+    let g = c.take_mark.new.feed in
     let h = c.annotation.new.feed in
-    let k = c.take-mark-2.new.feed in
+    let k = c.take_mark-2.new.feed in
     let m = c.annotation.new.arena in
-    let i = c.in-ok-result.result in
-    let ok = c.in-ok-take-mark.ensures in
-    let read = c.in-ok-result.ensures in
-    let end = c.in-ok-take-mark-2.ensures in
+    let i = c.in_ok-result.result in
+    let ok = c.in_ok-take_mark.ensures in
+    let read = c.in_ok-result.ensures in
+    let end = c.in_ok-take_mark-2.ensures in
     let begun : Passed (at (tree.mark tree.arrow) ok.told.0) f g = record { first = ok.told.1; source = ok.source } in
     let ended : Passed (at (tree.mark tree.colon) end.told.0) h k = record { first = end.told.1; source = end.source } in
     let next : SignedAt c.args.depth → State = λ x. typing (slot_of x).slot in

@@ -69,24 +69,24 @@ before_type {d} {f} {g} {h} {n} {m} {r} {s} p begin told form here spell q colon
     (stepped {X = At d} m (λ x. having (feed_source h) (arena_nodes m) r (line p tree.nil (body_of x))) (λ x. typing (of_var (named (feed_source h) s) (inside (frame_of x.owner x.declared)))) colon
     (λ x. defines (feed_source h) r s (read_expr (feed_source h) (arena_nodes m) r) p (frame_of x.owner x.declared) q (coming h) form here (spell (feed_source h)))))
 
-pub returns-in-err-first : goal.returns-in-err-first
-returns-in-err-first c =
+pub returns-in_err-first : goal.returns-in_err-first
+returns-in_err-first c =
     let f = c.args.feed.now in
     let p = c.args.next.place in
-    let bad = c.in-err-first.ensures.told in
-    stopped c.from-residual.result _ c.from-residual.ensures.1 bad.kept
+    let bad = c.in_err-first.ensures.told in
+    stopped c.from_residual.result _ c.from_residual.ensures.1 bad.kept
     (λ x. ap judged (begins_line (feed_source f) c.args.next (coming f) (body_of x) c.requires.facing c.requires.kind) ∙ bad.goes (line p tree.nil (body_of x)) (spot_of p x))
 
-pub returns-in-err-variable : goal.returns-in-err-variable
-returns-in-err-variable c =
+pub returns-in_err-variable : goal.returns-in_err-variable
+returns-in_err-variable c =
     let f = c.args.feed.now in
     let g = c.expression.new.feed in
-    let h = c.defined-name.new.feed in
-    let ok = c.in-ok-first.ensures.told in
+    let h = c.defined_name.new.feed in
+    let ok = c.in_ok-first.ensures.told in
     let name = c.in-Some.ensures in
     let colon : Passed (at (tree.mark tree.colon) name.told.3.0) g h = record { first = name.told.3.1; source = name.source } in
-    let bad = c.in-err-variable.ensures in
-    stopped_behind c.from-residual-in-err-variable.result _ c.from-residual-in-err-variable.ensures.1
+    let bad = c.in_err-variable.ensures in
+    stopped_behind c.from_residual-in_err-variable.result _ c.from_residual-in_err-variable.ensures.1
     (before_type c.args.next.place (λ b. begins_line (feed_source f) c.args.next (coming f) b c.requires.facing c.requires.kind) ok name.told.0 name.told.1 name.told.2 name.told.3.0 colon) bad.kept
     (λ x. bad.tells (outer_of x))
 
@@ -94,18 +94,18 @@ pub returns-in-Some : goal.returns-in-Some
 returns-in-Some c =
     let f = c.args.feed.now in
     let g = c.expression.new.feed in
-    let h = c.defined-name.new.feed in
+    let h = c.defined_name.new.feed in
     let k = c.variable.new.feed in
     let m = c.expression.new.arena in
     let l = c.variable.new.arena in
     let n = c.args.arena.now in
-    let i = c.in-ok-variable.field-0 in
+    let i = c.in_ok-variable.field-0 in
     let s = c.in-Some.name in
     let d = c.args.depth in
-    let ok = c.in-ok-first.ensures.told in
+    let ok = c.in_ok-first.ensures.told in
     let name = c.in-Some.ensures in
     let colon : Passed (at (tree.mark tree.colon) name.told.3.0) g h = record { first = name.told.3.1; source = name.source } in
-    let done = c.in-ok-variable.ensures in
+    let done = c.in_ok-variable.ensures in
     let a : Along {X = At d} (λ x. limited 64 (coming f) (start (body_of x))) (λ x. limited 64 (coming h) (typing (of_var (named (feed_source h) s) (inside (frame_of x.owner x.declared))))) f n h m =
     before_type c.args.next.place (λ b. begins_line (feed_source f) c.args.next (coming f) b c.requires.facing c.requires.kind) ok name.told.0 name.told.1 name.told.2 name.told.3.0 colon in
     let src : feed_source h ≡ feed_source f = colon.source ∙ ok.kept.source in
@@ -123,10 +123,10 @@ returns-in-Some c =
 
 pub assignment-requires : goal.assignment-requires
 assignment-requires c =
-    let ok = c.in-ok-first.ensures in
-    let rest = c.in-default.ensures in
+    let ok = c.in_ok-first.ensures in
+    let rest = c.in_default.ensures in
     let st = c.store-none.ensures in
-    let a : Fronted c.args.depth c.args.feed.now c.args.arena.now c.defined-name.new.feed c.store-none.new.arena c.store-none.result c.in-ok-first.first = fronted ok.told ok.ends rest.told.0 rest.source st.index st.nodes st.limit in
+    let a : Fronted c.args.depth c.args.feed.now c.args.arena.now c.defined_name.new.feed c.store-none.new.arena c.store-none.result c.in_ok-first.first = fronted ok.told ok.ends rest.told.0 rest.source st.index st.nodes st.limit in
     record { room = room_on a.kept c.requires.room; deep = c.requires.deep; stored = a.read; ends = a.ends; kept = a.stored; empty = a.empty }
 
 -- the same places, where no colon defines the first expression
@@ -134,38 +134,38 @@ abbrev first_at : {d : ℕ} (r : Read) (h : Feed) (ts : List Token) → coming h
     → LineAt d r.place (form_of r.form e) (coming h)
 first_at r h ts same u e x = record { body = body_of x; deep = deep_of x; unsaid = subst (Unsaid (body_of x) r.place (form_of r.form e)) (sym same) (u e (body_of x)) }
 
-pub returns-in-err-assignment : goal.returns-in-err-assignment
-returns-in-err-assignment c =
+pub returns-in_err-assignment : goal.returns-in_err-assignment
+returns-in_err-assignment c =
     let g = c.expression.new.feed in
-    let h = c.defined-name.new.feed in
-    let r = c.in-ok-first.first in
+    let h = c.defined_name.new.feed in
+    let r = c.in_ok-first.first in
     let d = c.args.depth in
-    let ok = c.in-ok-first.ensures in
-    let rest = c.in-default.ensures in
+    let ok = c.in_ok-first.ensures in
+    let rest = c.in_default.ensures in
     let st = c.store-none.ensures in
     let a : Fronted d c.args.feed.now c.args.arena.now h c.store-none.new.arena c.store-none.result r = fronted ok.told ok.ends rest.told.0 rest.source st.index st.nodes st.limit in
-    let bad = c.in-err-assignment.ensures in
-    stopped_behind c.from-residual-in-err-assignment.result _ c.from-residual-in-err-assignment.ensures.1 (along_fronted c.args.next c.requires.facing c.requires.kind a (λ (x : At d). body_of x) deep_of) bad.kept
+    let bad = c.in_err-assignment.ensures in
+    stopped_behind c.from_residual-in_err-assignment.result _ c.from_residual-in_err-assignment.ensures.1 (along_fronted c.args.next c.requires.facing c.requires.kind a (λ (x : At d). body_of x) deep_of) bad.kept
     (λ x. bad.leads (first_at r h (coming g) rest.told.0 rest.told.1 (read_expr (feed_source h) (arena_nodes c.store-none.new.arena) r) x))
 
 pub returns : goal.returns
 returns c =
     let f = c.args.feed.now in
     let g = c.expression.new.feed in
-    let h = c.defined-name.new.feed in
+    let h = c.defined_name.new.feed in
     let k = c.assignment.new.feed in
     let n = c.args.arena.now in
     let m = c.store-none.new.arena in
     let l = c.assignment.new.arena in
-    let r = c.in-ok-first.first in
-    let i = c.in-ok-assignment.field-0 in
+    let r = c.in_ok-first.first in
+    let i = c.in_ok-assignment.field-0 in
     let d = c.args.depth in
     let p = c.args.next.place in
-    let ok = c.in-ok-first.ensures in
-    let rest = c.in-default.ensures in
+    let ok = c.in_ok-first.ensures in
+    let rest = c.in_default.ensures in
     let st = c.store-none.ensures in
     let a : Fronted d f n h m c.store-none.result r = fronted ok.told ok.ends rest.told.0 rest.source st.index st.nodes st.limit in
-    let done = c.in-ok-assignment.ensures in
+    let done = c.in_ok-assignment.ensures in
     let b : Along {X = At d} (λ x. limited 64 (coming f) (start (body_of x))) (λ x. limited 64 (coming h) (having (feed_source h) (arena_nodes m) r (line p tree.nil (body_of x)))) f n h m =
     along_fronted c.args.next c.requires.facing c.requires.kind a body_of deep_of in
     record {

@@ -24,19 +24,19 @@ expression-requires c =
     let m = c.store-targets.new.arena in
     let yes = c.loop-arena-test.ensures in
     let st = c.store-targets.ensures in
-    let a : Aimed c.args.depth c.args.place c.args.feed.now c.args.arena.now c.args.first c.is-assigned.new.feed m c.store-targets.result = aimed c.loop-arena.invariant yes.told yes.source st.index st.nodes st.limit in
+    let a : Aimed c.args.depth c.args.place c.args.feed.now c.args.arena.now c.args.first c.is_assigned.new.feed m c.store-targets.result = aimed c.loop-arena.invariant yes.told yes.source st.index st.nodes st.limit in
     record { room = room_on a.kept c.requires.room; deep = c.requires.deep; most = omega arith }
 
-pub returns-in-err-last : goal.returns-in-err-last
-returns-in-err-last c =
+pub returns-in_err-last : goal.returns-in_err-last
+returns-in_err-last c =
     let m = c.store-targets.new.arena in
     let i = c.store-targets.result in
     let yes = c.loop-arena-test.ensures in
     let st = c.store-targets.ensures in
-    let a : Aimed c.args.depth c.args.place c.args.feed.now c.args.arena.now c.args.first c.is-assigned.new.feed m i = aimed c.loop-arena.invariant yes.told yes.source st.index st.nodes st.limit in
-    let bad = c.in-err-last.ensures.told in
+    let a : Aimed c.args.depth c.args.place c.args.feed.now c.args.arena.now c.args.first c.is_assigned.new.feed m i = aimed c.loop-arena.invariant yes.told yes.source st.index st.nodes st.limit in
+    let bad = c.in_err-last.ensures.told in
     let es = (phrase (feed_source c.args.feed.now) (arena_nodes m) i).exprs in
-    stopped c.from-residual.result _ c.from-residual.ensures.1 (kept_then a.kept bad.kept)
+    stopped c.from_residual.result _ c.from_residual.ensures.1 (kept_then a.kept bad.kept)
     (λ x. ap judged (a.goes x) ∙ bad.goes (line c.args.place es x.body) (line_spot c.args.place es x.body x.deep))
 
 pub loop-arena-preserved : goal.loop-arena-preserved
@@ -44,14 +44,14 @@ loop-arena-preserved c =
     let m = c.store-targets.new.arena in
     let yes = c.loop-arena-test.ensures in
     let st = c.store-targets.ensures in
-    let a : Aimed c.args.depth c.args.place c.args.feed.now c.args.arena.now c.args.first c.is-assigned.new.feed m c.store-targets.result = aimed c.loop-arena.invariant yes.told yes.source st.index st.nodes st.limit in
-    let ok = c.in-ok-last.ensures in
+    let a : Aimed c.args.depth c.args.place c.args.feed.now c.args.arena.now c.args.first c.is_assigned.new.feed m c.store-targets.result = aimed c.loop-arena.invariant yes.told yes.source st.index st.nodes st.limit in
+    let ok = c.in_ok-last.ensures in
     chained_more a ok.told ok.ends
 
-pub returns-in-err-take-mark : goal.returns-in-err-take-mark
-returns-in-err-take-mark c =
+pub returns-in_err-take_mark : goal.returns-in_err-take_mark
+returns-in_err-take_mark c =
     let g = c.loop-arena.feed in
-    let h = c.is-assigned.new.feed in
+    let h = c.is_assigned.new.feed in
     let m = c.loop-arena.arena in
     let p = c.args.place in
     let r = c.loop-arena.last in
@@ -59,10 +59,10 @@ returns-in-err-take-mark c =
     let src = feed_source c.args.feed.now in
     let es = (phrase src (arena_nodes m) c.loop-arena.targets).exprs in
     let rest = c.loop-arena-test.ensures in
-    let bad = c.in-err-take-mark.ensures in
-    let y = c.in-err-take-mark.field-0.0 in
+    let bad = c.in_err-take_mark.ensures in
+    let y = c.in_err-take_mark.field-0.0 in
     let missing : NoMark Mark.Newline (coming g) y = subst (λ ts. NoMark Mark.Newline ts y) rest.told.0 bad.told.0 in
-    stopped c.from-residual-in-err-take-mark.result _ c.from-residual-in-err-take-mark.ensures.1
+    stopped c.from_residual-in_err-take_mark.result _ c.from_residual-in_err-take_mark.ensures.1
     (kept_then inv.kept (kept_then (kept_still {f = g} {g = h} m rest.told.0 rest.source) (kept_still m bad.told.1 bad.source)))
     (λ x.
     ap judged (inv.goes x)
@@ -72,8 +72,8 @@ pub returns : goal.returns
 returns c =
     let f = c.args.feed.now in
     let g = c.loop-arena.feed in
-    let h = c.is-assigned.new.feed in
-    let k = c.take-mark.new.feed in
+    let h = c.is_assigned.new.feed in
+    let k = c.take_mark.new.feed in
     let n = c.args.arena.now in
     let m = c.loop-arena.arena in
     let p = c.args.place in
@@ -85,7 +85,7 @@ returns c =
     let e = (phrase src (arena_nodes m) r.node).expr in
     let X = LineAt c.args.depth first.place (form_of first.form (phrase src (arena_nodes n) first.node).expr) (coming f) in
     let rest = c.loop-arena-test.ensures in
-    let end = c.in-ok-take-mark.ensures in
+    let end = c.in_ok-take_mark.ensures in
     let ended : Passed (at (tree.mark tree.newline) end.told.0) h k = record { first = end.told.1; source = end.source } in
     let still = ap length rest.told.0 in
     let long = passed_long ended in

@@ -14,19 +14,19 @@ use Rattle.reader.proofs.LineSteps.{Fronted, along_fronted, begins_line, fronted
 use Rattle.reader.proofs.Steps.{room_on}
 use Rattle.reader.proofs.lines.line.Goals as goal
 
-pub returns-in-err-first : goal.returns-in-err-first
-returns-in-err-first c =
+pub returns-in_err-first : goal.returns-in_err-first
+returns-in_err-first c =
     let f = c.args.feed.now in
     let p = c.args.next.place in
-    let bad = c.in-err-first.ensures.told in
-    stopped c.from-residual.result _ c.from-residual.ensures.1 bad.kept
+    let bad = c.in_err-first.ensures.told in
+    stopped c.from_residual.result _ c.from_residual.ensures.1 bad.kept
     (λ x. ap judged (begins_line (feed_source f) c.args.next (coming f) x.body c.requires.facing c.requires.kind) ∙ bad.goes (line p tree.nil x.body) (line_spot p tree.nil x.body x.deep))
 
 pub assignment-requires : goal.assignment-requires
 assignment-requires c =
-    let ok = c.in-ok-first.ensures in
+    let ok = c.in_ok-first.ensures in
     let st = c.store-none.ensures in
-    let a : Fronted c.args.depth c.args.feed.now c.args.arena.now c.expression.new.feed c.store-none.new.arena c.store-none.result c.in-ok-first.first = fronted ok.told ok.ends refl refl st.index st.nodes st.limit in
+    let a : Fronted c.args.depth c.args.feed.now c.args.arena.now c.expression.new.feed c.store-none.new.arena c.store-none.result c.in_ok-first.first = fronted ok.told ok.ends refl refl st.index st.nodes st.limit in
     record { room = room_on a.kept c.requires.room; deep = c.requires.deep; stored = a.read; ends = a.ends; kept = a.stored; empty = a.empty }
 
 -- where no variable may be defined any more, none is
@@ -43,8 +43,8 @@ returns c =
     let m = c.store-none.new.arena in
     let l = c.assignment.new.arena in
     let d = c.args.depth in
-    let r = c.in-ok-first.first in
-    let ok = c.in-ok-first.ensures in
+    let r = c.in_ok-first.first in
+    let ok = c.in_ok-first.ensures in
     let st = c.store-none.ensures in
     let a : Fronted d f n g m c.store-none.result r = fronted ok.told ok.ends refl refl st.index st.nodes st.limit in
     let form = form_of r.form (phrase (feed_source g) (arena_nodes m) r.node).expr in

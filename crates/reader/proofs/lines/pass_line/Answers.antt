@@ -14,16 +14,16 @@ use Rattle.reader.proofs.Steps.{Passed, faced, kept_still, passed, passed_long}
 use Rattle.reader.proofs.VariableMoves.{no_line_end}
 use Rattle.reader.proofs.lines.pass_line.Goals as goal
 
-pub returns-in-err-take-mark : goal.returns-in-err-take-mark
-returns-in-err-take-mark c =
+pub returns-in_err-take_mark : goal.returns-in_err-take_mark
+returns-in_err-take_mark c =
     let f = c.args.feed.now in
     let g = c.advance.new.self in
     let n = c.args.arena.now in
     let p = c.args.next.place in
     let begun : Passed _ f g = passed (faced (feed_source f) c.args.next (coming f) (Kind.Mark Mark.Pass) c.requires.facing c.requires.kind) c.advance.ensures.coming c.advance.ensures.source in
-    let bad = c.in-err-take-mark.ensures in
+    let bad = c.in_err-take_mark.ensures in
     let next : BodyAt c.args.depth (coming f) → State = λ x. start (add (tree.skip p) x.body) in
-    stopped_behind c.from-residual.result _ c.from-residual.ensures.1
+    stopped_behind c.from_residual.result _ c.from_residual.ensures.1
     (stepped n (λ (x : BodyAt c.args.depth (coming f)). start x.body) (λ x. seq tree.newline [] (next x)) begun (λ x. refl))
     (kept_still n bad.told.1 bad.source)
     (λ x. no_line_end (next x) (coming g) _ bad.told.0)
@@ -32,11 +32,11 @@ pub returns : goal.returns
 returns c =
     let f = c.args.feed.now in
     let g = c.advance.new.self in
-    let h = c.take-mark.new.feed in
+    let h = c.take_mark.new.feed in
     let n = c.args.arena.now in
     let p = c.args.next.place in
     let begun : Passed _ f g = passed (faced (feed_source f) c.args.next (coming f) (Kind.Mark Mark.Pass) c.requires.facing c.requires.kind) c.advance.ensures.coming c.advance.ensures.source in
-    let ok = c.in-ok-take-mark.ensures in
+    let ok = c.in_ok-take_mark.ensures in
     let ended : Passed (at (tree.mark tree.newline) ok.told.0) g h = record { first = ok.told.1; source = ok.source } in
     let next : BodyAt c.args.depth (coming f) → State = λ x. start (add (tree.skip p) x.body) in
     let long = passed_long begun in

@@ -55,8 +55,8 @@ returns-then-passes c =
     c.store.ensures.index c.store.ensures.nodes c.store.ensures.limit (omega (arith, long, more))
     (λ new x. ap (λ (q : Phrase). limited 64 (coming h) (start (add q.stmt x.body))) (sym new))
 
-pub returns-in-err-value : goal.returns-in-err-value
-returns-in-err-value c =
+pub returns-in_err-value : goal.returns-in_err-value
+returns-in_err-value c =
     let f = c.args.feed.now in
     let g = c.advance.new.self in
     let h = c.passes.new.feed in
@@ -64,12 +64,12 @@ returns-in-err-value c =
     let p = c.args.next.place in
     let begun : Passed _ f g = passed (faced (feed_source f) c.args.next (coming f) (Kind.Mark Mark.Return) c.requires.facing c.requires.kind) c.advance.ensures.coming c.advance.ensures.source in
     let go = c.if-passes.ensures in
-    let bad = c.in-err-value.ensures.told in
-    stopped_behind c.from-residual.result _ c.from-residual.ensures.1 (before_value {d = c.args.depth} {f = f} {g = g} {h = h} n p begun go.told.0 go.source go.told.1) bad.kept
+    let bad = c.in_err-value.ensures.told in
+    stopped_behind c.from_residual.result _ c.from_residual.ensures.1 (before_value {d = c.args.depth} {f = f} {g = g} {h = h} n p begun go.told.0 go.source go.told.1) bad.kept
     (λ x. bad.goes (value p x.body) (record { asked = refl; deep = x.deep }))
 
-pub returns-in-err-take-mark : goal.returns-in-err-take-mark
-returns-in-err-take-mark c =
+pub returns-in_err-take_mark : goal.returns-in_err-take_mark
+returns-in_err-take_mark c =
     let f = c.args.feed.now in
     let g = c.advance.new.self in
     let h = c.passes.new.feed in
@@ -80,12 +80,12 @@ returns-in-err-take-mark c =
     let X = BodyAt c.args.depth (coming f) in
     let begun : Passed _ f g = passed (faced (feed_source f) c.args.next (coming f) (Kind.Mark Mark.Return) c.requires.facing c.requires.kind) c.advance.ensures.coming c.advance.ensures.source in
     let go = c.if-passes.ensures in
-    let r = c.in-ok-value.value in
-    let ok = c.in-ok-value.ensures in
-    let bad = c.in-err-take-mark.ensures in
+    let r = c.in_ok-value.value in
+    let ok = c.in_ok-value.ensures in
+    let bad = c.in_err-take_mark.ensures in
     let e = read_expr (feed_source h) (arena_nodes m) r in
     let spot : (x : X) → Spot 0 c.args.depth (value p x.body) = λ x. record { asked = refl; deep = x.deep } in
-    stopped_behind c.from-residual-in-err-take-mark.result _ c.from-residual-in-err-take-mark.ensures.1
+    stopped_behind c.from_residual-in_err-take_mark.result _ c.from_residual-in_err-take_mark.ensures.1
     (along (before_value {d = c.args.depth} {f = f} {g = g} {h = h} n p begun go.told.0 go.source go.told.1) (along_read {X = X} {src = feed_source h} refl ok.told (λ x. value p x.body) spot))
     (kept_still m bad.told.1 bad.source)
     (λ x.
@@ -97,16 +97,16 @@ returns c =
     let g = c.advance.new.self in
     let h = c.passes.new.feed in
     let k = c.expression.new.feed in
-    let l = c.take-mark.new.feed in
+    let l = c.take_mark.new.feed in
     let n = c.args.arena.now in
     let m = c.expression.new.arena in
     let p = c.args.next.place in
     let X = BodyAt c.args.depth (coming f) in
     let begun : Passed _ f g = passed (faced (feed_source f) c.args.next (coming f) (Kind.Mark Mark.Return) c.requires.facing c.requires.kind) c.advance.ensures.coming c.advance.ensures.source in
     let go = c.if-passes.ensures in
-    let r = c.in-ok-value.value in
-    let ok = c.in-ok-value.ensures.told in
-    let end = c.in-ok-take-mark.ensures in
+    let r = c.in_ok-value.value in
+    let ok = c.in_ok-value.ensures.told in
+    let end = c.in_ok-take_mark.ensures in
     let ended : Passed (at (tree.mark tree.newline) end.told.0) k l = record { first = end.told.1; source = end.source } in
     let e = read_expr (feed_source f) (arena_nodes m) r in
     let long = passed_long begun in

@@ -15,7 +15,7 @@ use Rattle.reader.proofs.parameters.more_parameters.Goals as goal
 
 pub store-requires : goal.store-requires
 store-requires c =
-    let ok = c.in-ok-name.ensures in
+    let ok = c.in_ok-name.ensures in
     let stored = c.requires.stored in
     let long = kept_long ok.kept in
     record {
@@ -31,13 +31,13 @@ sheds (t ∷ ts) ps m a x = refl
 pub returns : goal.returns
 returns c =
     let f = c.args.feed.now in
-    let g = c.one-parameter.new.feed in
+    let g = c.one_parameter.new.feed in
     let n = c.args.arena.now in
-    let m = c.one-parameter.new.arena in
+    let m = c.one_parameter.new.arena in
     let src = feed_source f in
     let list = c.args.list in
-    let one = c.in-ok-name.field-0 in
-    let ok = c.in-ok-name.ensures in
+    let one = c.in_ok-name.field-0 in
+    let ok = c.in_ok-name.ensures in
     let ps = (phrase src (arena_nodes n) list).params in
     let a = (phrase src (arena_nodes m) one.annotation).ann in
     let read : Along (λ (x : Header c.args.depth). limited 64 (coming f) (naming (for_param x.place x.name ps x.outer))) (past_param (coming g) (tree.param ps (named src one.name) a)) f n g m = record {

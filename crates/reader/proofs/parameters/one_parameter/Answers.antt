@@ -12,53 +12,53 @@ use Rattle.reader.proofs.ParameterMoves.{colon_comes, no_colon, no_param_name, p
 use Rattle.reader.proofs.Storing.{kept_taken, kept_then, unmade}
 use Rattle.reader.proofs.parameters.one_parameter.Goals as goal
 
-pub returns-in-err-name : goal.returns-in-err-name
-returns-in-err-name c =
+pub returns-in_err-name : goal.returns-in_err-name
+returns-in_err-name c =
     let f = c.args.feed.now in
     let n = c.args.arena.now in
     let d = c.args.depth in
-    let bad = c.in-err-name.ensures in
-    let p = err_from_is_err_and c.from-residual.result c.from-residual.ensures.1 in
+    let bad = c.in_err-name.ensures in
+    let p = err_from_is_err_and c.from_residual.result c.from_residual.ensures.1 in
     record {
       kept = kept_taken n bad.source (let l = ap length bad.told.1 in omega arith);
-      tells = subst (ParameterTells (feed_source f) (arena_nodes n) d (coming f) (coming c.take-name.new.feed)) (sym (p.1 ∙ ap Err p.2))
-          (λ x ps. no_param_name d x ps (coming f) c.in-err-name.field-0.0 bad.told.0);
-      spare = unmade _ _ c.from-residual.result c.from-residual.ensures.1;
+      tells = subst (ParameterTells (feed_source f) (arena_nodes n) d (coming f) (coming c.take_name.new.feed)) (sym (p.1 ∙ ap Err p.2))
+          (λ x ps. no_param_name d x ps (coming f) c.in_err-name.field-0.0 bad.told.0);
+      spare = unmade _ _ c.from_residual.result c.from_residual.ensures.1;
     }
 
-pub returns-in-err-take-mark : goal.returns-in-err-take-mark
-returns-in-err-take-mark c =
+pub returns-in_err-take_mark : goal.returns-in_err-take_mark
+returns-in_err-take_mark c =
     let f = c.args.feed.now in
-    let g = c.take-name.new.feed in
+    let g = c.take_name.new.feed in
     let n = c.args.arena.now in
     let d = c.args.depth in
     let src = feed_source f in
-    let name = c.in-ok-name.name in
-    let ok = c.in-ok-name.ensures in
-    let bad = c.in-err-take-mark.ensures in
-    let p = err_from_is_err_and c.from-residual-in-err-take-mark.result c.from-residual-in-err-take-mark.ensures.1 in
+    let name = c.in_ok-name.name in
+    let ok = c.in_ok-name.ensures in
+    let bad = c.in_err-take_mark.ensures in
+    let p = err_from_is_err_and c.from_residual-in_err-take_mark.result c.from_residual-in_err-take_mark.ensures.1 in
     record {
       kept = kept_then (kept_taken {g = g} n ok.source (let l = ap length ok.told in omega arith)) (kept_taken n bad.source (let l = ap length bad.told.1 in omega arith));
-      tells = subst (ParameterTells src (arena_nodes n) d (coming f) (coming c.take-mark.new.feed)) (sym (p.1 ∙ ap Err p.2))
+      tells = subst (ParameterTells src (arena_nodes n) d (coming f) (coming c.take_mark.new.feed)) (sym (p.1 ∙ ap Err p.2))
           (λ x ps.
           ap judged (param_named d x ps name.at (spelled src name) (coming f) (coming g) ok.told)
-          ∙ no_colon (typing (of_param x.place x.name ps (named src name) x.outer)) (coming g) c.in-err-take-mark.field-0.0 bad.told.0);
-      spare = unmade _ _ c.from-residual-in-err-take-mark.result c.from-residual-in-err-take-mark.ensures.1;
+          ∙ no_colon (typing (of_param x.place x.name ps (named src name) x.outer)) (coming g) c.in_err-take_mark.field-0.0 bad.told.0);
+      spare = unmade _ _ c.from_residual-in_err-take_mark.result c.from_residual-in_err-take_mark.ensures.1;
     }
 
-pub returns-in-err-annotation : goal.returns-in-err-annotation
-returns-in-err-annotation c =
+pub returns-in_err-annotation : goal.returns-in_err-annotation
+returns-in_err-annotation c =
     let f = c.args.feed.now in
-    let g = c.take-name.new.feed in
-    let h = c.take-mark.new.feed in
+    let g = c.take_name.new.feed in
+    let h = c.take_mark.new.feed in
     let n = c.args.arena.now in
     let d = c.args.depth in
     let src = feed_source f in
-    let name = c.in-ok-name.name in
-    let ok = c.in-ok-name.ensures in
-    let colon = c.in-ok-take-mark.ensures in
-    let bad = c.in-err-annotation.ensures in
-    let p = err_from_is_err_and c.from-residual-in-err-annotation.result c.from-residual-in-err-annotation.ensures.1 in
+    let name = c.in_ok-name.name in
+    let ok = c.in_ok-name.ensures in
+    let colon = c.in_ok-take_mark.ensures in
+    let bad = c.in_err-annotation.ensures in
+    let p = err_from_is_err_and c.from_residual-in_err-annotation.result c.from_residual-in_err-annotation.ensures.1 in
     record {
       kept = kept_then (kept_taken {g = g} n ok.source (let l = ap length ok.told in omega arith))
           (kept_then (kept_taken {g = h} n colon.source (let l = ap length colon.told.1 in omega arith)) bad.kept);
@@ -67,24 +67,24 @@ returns-in-err-annotation c =
           let s = typing (of_param x.place x.name ps (named src name) x.outer) in
           ap judged (param_named d x ps name.at (spelled src name) (coming f) (coming g) ok.told ∙ colon_comes s colon.told.0 (coming g) (coming h) colon.told.1)
           ∙ bad.tells (param_slot d x ps (named src name)));
-      spare = unmade _ _ c.from-residual-in-err-annotation.result c.from-residual-in-err-annotation.ensures.1;
+      spare = unmade _ _ c.from_residual-in_err-annotation.result c.from_residual-in_err-annotation.ensures.1;
     }
 
 pub returns : goal.returns
 returns c =
     let f = c.args.feed.now in
-    let g = c.take-name.new.feed in
-    let h = c.take-mark.new.feed in
+    let g = c.take_name.new.feed in
+    let h = c.take_mark.new.feed in
     let k = c.annotation.new.feed in
     let n = c.args.arena.now in
     let d = c.args.depth in
     let src = feed_source f in
     let ns = arena_nodes c.annotation.new.arena in
-    let i = c.in-ok-annotation.annotation in
-    let name = c.in-ok-name.name in
-    let ok = c.in-ok-name.ensures in
-    let colon = c.in-ok-take-mark.ensures in
-    let typed = c.in-ok-annotation.ensures in
+    let i = c.in_ok-annotation.annotation in
+    let name = c.in_ok-name.name in
+    let ok = c.in_ok-name.ensures in
+    let colon = c.in_ok-take_mark.ensures in
+    let typed = c.in_ok-annotation.ensures in
     let same : feed_source h ≡ src = colon.source ∙ ok.source in
     let told = subst (λ s. TypeTells s ns d (coming h) (coming k) (Ok i)) same typed.tells in
     record {

@@ -22,20 +22,20 @@ use Rattle.reader.proofs.parameters.parameters.Goals as goal
 abbrev inward : {d : ℕ} → FunctionAt d → Inward d
 inward x = record { state = params x.place x.name x.outer; deep = ap suc x.deep }
 
-pub returns-in-err-take-round : goal.returns-in-err-take-round
-returns-in-err-take-round c =
-    let bad = c.in-err-take-round.ensures in
-    stopped c.from-residual.result _ c.from-residual.ensures.1 (kept_taken c.args.arena.now bad.told.source bad.told.fewer) (λ x. bad.told.gets (inward x))
+pub returns-in_err-take_round : goal.returns-in_err-take_round
+returns-in_err-take_round c =
+    let bad = c.in_err-take_round.ensures in
+    stopped c.from_residual.result _ c.from_residual.ensures.1 (kept_taken c.args.arena.now bad.told.source bad.told.fewer) (λ x. bad.told.gets (inward x))
 
 pub returns-then-passes : goal.returns-then-passes
 returns-then-passes c =
     let f = c.args.feed.now in
-    let g = c.take-round.new.feed in
+    let g = c.take_round.new.feed in
     let h = c.passes.new.feed in
     let n = c.args.arena.now in
     let m = c.store-empty.new.arena in
     let i = c.store-empty.result in
-    let ok = c.in-ok-take-round.ensures.told in
+    let ok = c.in_ok-take_round.ensures.told in
     let st = c.store-empty.ensures in
     let came = c.if-passes.ensures in
     let count = ok.gets.count in
@@ -48,10 +48,10 @@ returns-then-passes c =
     new.here (omega (arith, count, one, long))
     (λ x. ap (λ (q : Phrase). limited 64 (coming h) (next q.params x)) (sym new.stands))
 
-pub some-parameters-requires : goal.some-parameters-requires
-some-parameters-requires c =
+pub some_parameters-requires : goal.some_parameters-requires
+some_parameters-requires c =
     let n = c.args.arena.now in
-    let ok = c.in-ok-take-round.ensures in
+    let ok = c.in_ok-take_round.ensures in
     let st = c.store-empty.ensures in
     let still = c.if-passes.ensures in
     let count = ok.told.gets.count in
@@ -82,14 +82,14 @@ header x = let e = x.deep in record { place = x.place; name = x.name; outer = x.
 pub returns : goal.returns
 returns c =
     let f = c.args.feed.now in
-    let g = c.take-round.new.feed in
+    let g = c.take_round.new.feed in
     let h = c.passes.new.feed in
-    let k = c.some-parameters.new.feed in
+    let k = c.some_parameters.new.feed in
     let n = c.args.arena.now in
     let m = c.store-empty.new.arena in
-    let l = c.some-parameters.new.arena in
+    let l = c.some_parameters.new.arena in
     let i = c.store-empty.result in
-    let ok = c.in-ok-take-round.ensures.told in
+    let ok = c.in_ok-take_round.ensures.told in
     let st = c.store-empty.ensures in
     let still = c.if-passes.ensures in
     let count = ok.gets.count in
@@ -102,7 +102,7 @@ returns c =
       goes = λ x. begins x.place x.name x.outer (coming g) still.told.1 ∙ ap (λ ts. limited 64 ts (wanted tree.no_params x)) (sym still.told.0)
           ∙ ap (λ (q : Phrase). limited 64 (coming h) (wanted q.params x)) (sym new.stands);
     } in
-    told_behind c.some-parameters.result header
+    told_behind c.some_parameters.result header
     (along (along_stored Node.NoParameters (got n ok inward) st.nodes st.limit (omega (arith, count))) begun)
-    c.some-parameters.ensures (omega (arith, count, one, same))
+    c.some_parameters.ensures (omega (arith, count, one, same))
     (λ j x. ap (λ s. limited 64 (coming k) (seq tree.arrow [] (typing (of_result x.place x.name (phrase s (arena_nodes l) j).params x.outer)))) (still.source ∙ ok.source))

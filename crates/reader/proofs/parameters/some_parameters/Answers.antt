@@ -45,35 +45,35 @@ unlisted x ps (t ∷ us) y u b =
 first_told : {d i : ℕ} {f g : Feed} {n m : Arena} (list : ℕ) → MoreParametersTold d list f n g m (Ok i) → Along (wanted d (feed_source f) f n list) (past d (feed_source g) g m i) f n g m
 first_told {i = i} {g = g} {m = m} list t = along_as (led t (λ x. x)) (λ x. ap (λ s. past_param (coming g) (phrase s (arena_nodes m) i).params x) (sym t.kept.source))
 
-pub returns-in-err-list-2 : goal.returns-in-err-list-2
-returns-in-err-list-2 c =
-    let e = c.more-parameters.new.feed in
+pub returns-in_err-list-2 : goal.returns-in_err-list-2
+returns-in_err-list-2 c =
+    let e = c.more_parameters.new.feed in
     let f = c.loop-feed.feed in
     let g = c.passes.new.feed in
     let m = c.loop-feed.arena in
     let i = c.loop-feed.list in
     let d = c.args.depth in
     let came = c.loop-feed-test.ensures in
-    let bad = c.in-err-list-2.ensures in
+    let bad = c.in_err-list-2.ensures in
     let inv = c.loop-feed.invariant in
     let on : Passed (at (tree.mark tree.comma) came.told.0) f g = record { first = came.told.1; source = came.source } in
-    stopped_behind c.from-residual-in-err-list-2.result _ c.from-residual-in-err-list-2.ensures.1
-    (along (first_told c.args.empty c.in-ok-list.ensures) (along inv.1 (comma (feed_source e) m i on))) bad.kept
+    stopped_behind c.from_residual-in_err-list-2.result _ c.from_residual-in_err-list-2.ensures.1
+    (along (first_told c.args.empty c.in_ok-list.ensures) (along inv.1 (comma (feed_source e) m i on))) bad.kept
     (λ x. ap (λ s. judged (wanted d s g m i x)) (sym (came.source ∙ inv.1.kept.source)) ∙ bad.leads x)
 
 pub loop-feed-preserved : goal.loop-feed-preserved
 loop-feed-preserved c =
-    let e = c.more-parameters.new.feed in
+    let e = c.more_parameters.new.feed in
     let f = c.loop-feed.feed in
     let g = c.passes.new.feed in
-    let h = c.more-parameters-in-loop-feed.new.feed in
+    let h = c.more_parameters-in-loop-feed.new.feed in
     let m = c.loop-feed.arena in
-    let k = c.more-parameters-in-loop-feed.new.arena in
+    let k = c.more_parameters-in-loop-feed.new.arena in
     let i = c.loop-feed.list in
-    let j = c.in-ok-list-2.list in
+    let j = c.in_ok-list-2.list in
     let d = c.args.depth in
     let came = c.loop-feed-test.ensures in
-    let told = c.in-ok-list-2.ensures in
+    let told = c.in_ok-list-2.ensures in
     let inv = c.loop-feed.invariant in
     let on : Passed (at (tree.mark tree.comma) came.told.0) f g = record { first = came.told.1; source = came.source } in
     let same : feed_source g ≡ feed_source e = came.source ∙ inv.1.kept.source in (
@@ -81,33 +81,33 @@ loop-feed-preserved c =
       along inv.1 (along (along_as (comma (feed_source e) m i on) (λ x. ap (λ s. wanted d s g m i x) (sym same))) (along_as (led told (λ x. x)) (λ x. ap (λ s. past d s h k j x) same))),
     )
 
-pub returns-in-err-take-mark : goal.returns-in-err-take-mark
-returns-in-err-take-mark c =
-    let e = c.more-parameters.new.feed in
+pub returns-in_err-take_mark : goal.returns-in_err-take_mark
+returns-in_err-take_mark c =
+    let e = c.more_parameters.new.feed in
     let f = c.loop-feed.feed in
     let m = c.loop-feed.arena in
-    let y = c.in-err-take-mark.field-0.0 in
+    let y = c.in_err-take_mark.field-0.0 in
     let still = c.loop-feed-test.ensures in
-    let bad = c.in-err-take-mark.ensures in
+    let bad = c.in_err-take_mark.ensures in
     let inv = c.loop-feed.invariant in
-    stopped_behind c.from-residual-in-err-take-mark.result _ c.from-residual-in-err-take-mark.ensures.1
-    (along (first_told c.args.empty c.in-ok-list.ensures) inv.1)
+    stopped_behind c.from_residual-in_err-take_mark.result _ c.from_residual-in_err-take_mark.ensures.1
+    (along (first_told c.args.empty c.in_ok-list.ensures) inv.1)
     (kept_still m (bad.told.1 ∙ still.told.0) (bad.source ∙ still.source))
     (λ x. unlisted x (phrase (feed_source e) (arena_nodes m) c.loop-feed.list).params (coming f) y still.told.1 (subst (λ ts. NoMark Mark.RightRound ts y) still.told.0 bad.told.0))
 
 pub returns : goal.returns
 returns c =
     let a = c.args.feed.now in
-    let e = c.more-parameters.new.feed in
+    let e = c.more_parameters.new.feed in
     let f = c.loop-feed.feed in
     let g = c.passes.new.feed in
-    let h = c.take-mark.new.feed in
+    let h = c.take_mark.new.feed in
     let m = c.loop-feed.arena in
     let i = c.loop-feed.list in
     let d = c.args.depth in
     let still = c.loop-feed-test.ensures in
-    let came = c.in-ok-take-mark.ensures in
-    let first = c.in-ok-list.ensures in
+    let came = c.in_ok-take_mark.ensures in
+    let first = c.in_ok-list.ensures in
     let inv = c.loop-feed.invariant in
     let ended : Passed (at (tree.mark tree.rparen) came.told.0) f h = record { first = sym still.told.0 ∙ came.told.1; source = came.source ∙ still.source } in
     let past_end : Along (past d (feed_source e) f m i) (λ x. limited 64 (coming h) (seq tree.arrow [] (typing (of_result x.place x.name (phrase (feed_source e) (arena_nodes m) i).params x.outer)))) f m h m =

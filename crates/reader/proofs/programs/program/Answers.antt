@@ -23,42 +23,42 @@ refused_whole : (src : List ℕ) (ns : List Node) (r : Result Body Stop) (y : St
 refused_whole src ns (Ok a) y v e w = absurd e
 refused_whole src ns (Err z) y v e w = ap stop_of e ∙ sym w
 
-pub whole-body-requires : goal.whole-body-requires
-whole-body-requires c =
-    let made = c.empty-body-empty.ensures in
+pub whole_body-requires : goal.whole_body-requires
+whole_body-requires c =
+    let made = c.empty_body-empty.ensures in
     let two = ap length made.nodes ∙ length-append (arena_nodes c.args.arena.now) (Node.NoDeclarations ∷ Node.NoStatements ∷ []) in
     record { room = omega (arith, two, c.requires, made.limit); deep = omega arith; empty = made.empty }
 
-pub returns-in-err-whole : goal.returns-in-err-whole
-returns-in-err-whole c =
-    let bad = c.in-err-whole.ensures in
+pub returns-in_err-whole : goal.returns-in_err-whole
+returns-in_err-whole c =
+    let bad = c.in_err-whole.ensures in
     record {
-      verdict = refused_whole _ _ c.from-residual.result _ _ c.from-residual.ensures.1 (bad.leads whole);
-      limit = bad.kept.limit ∙ c.empty-body-empty.ensures.limit;
+      verdict = refused_whole _ _ c.from_residual.result _ _ c.from_residual.ensures.1 (bad.leads whole);
+      limit = bad.kept.limit ∙ c.empty_body-empty.ensures.limit;
     }
 
 pub returns-in-None : goal.returns-in-None
 returns-in-None c =
     let src = feed_source c.args.feed.now in
-    let ns = arena_nodes c.whole-body.new.arena in
-    let body = c.in-ok-whole.whole in
-    let told = c.in-ok-whole.ensures in
+    let ns = arena_nodes c.whole_body.new.arena in
+    let body = c.in_ok-whole.whole in
+    let told = c.in_ok-whole.ensures in
     let end = done (phrase src ns body.declarations).decls (phrase src ns body.statements).stmts in
     record {
       verdict = sym (ap judged (told.leads.goes whole ∙ ap (λ ts. limited 64 ts end) c.in-None.ensures));
-      limit = told.kept.limit ∙ c.empty-body-empty.ensures.limit;
+      limit = told.kept.limit ∙ c.empty_body-empty.ensures.limit;
     }
 
 pub returns-in-Some : goal.returns-in-Some
 returns-in-Some c =
     let src = feed_source c.args.feed.now in
-    let g = c.whole-body.new.feed in
-    let ns = arena_nodes c.whole-body.new.arena in
-    let body = c.in-ok-whole.whole in
-    let told = c.in-ok-whole.ensures in
+    let g = c.whole_body.new.feed in
+    let ns = arena_nodes c.whole_body.new.arena in
+    let body = c.in_ok-whole.whole in
+    let told = c.in_ok-whole.ensures in
     let end = done (phrase src ns body.declarations).decls (phrase src ns body.statements).stmts in
     record {
       verdict = sym (ap judged (told.leads.goes whole)
-          ∙ refused_here (next_token (feed_source g) c.in-Some.next) (drop 1 (coming g)) (coming g) end c.stop-at.result c.in-Some.ensures refl (c.stop-at.ensures (feed_source g)));
-      limit = told.kept.limit ∙ c.empty-body-empty.ensures.limit;
+          ∙ refused_here (next_token (feed_source g) c.in-Some.next) (drop 1 (coming g)) (coming g) end c.stop_at.result c.in-Some.ensures refl (c.stop_at.ensures (feed_source g)));
+      limit = told.kept.limit ∙ c.empty_body-empty.ensures.limit;
     }

@@ -27,8 +27,8 @@ program-requires c =
     let none = ap length c.requires.empty in
     omega (arith, few, none, c.requires.room)
 
-pub refusal-of-requires : goal.refusal-of-requires
-refusal-of-requires c e =
+pub refusal_of-requires : goal.refusal_of-requires
+refusal_of-requires c e =
     let s = c.args.source.now in
     let all = all_coming s (length c.args.slots.now) c.new.result c.new-feed.result c.requires.short c.requires.levels c.new.ensures.enough c.new-feed.ensures.coming in
     never_short s (coming c.new-feed.result) c.requires.short all (sym e ∙ c.in-Err.ensures.verdict)
@@ -51,4 +51,4 @@ returns-in-Err c =
     let f = c.new-feed.result in
     let all = all_coming s (length c.args.slots.now) c.new.result f c.requires.short c.requires.levels c.new.ensures.enough c.new-feed.ensures.coming in
     let told = c.in-Err.ensures in
-    record { verdict = c.refusal-of.ensures ∙ told.verdict ∙ judged_so s (coming f) c.requires.short all; limit = told.limit }
+    record { verdict = c.refusal_of.ensures ∙ told.verdict ∙ judged_so s (coming f) c.requires.short all; limit = told.limit }

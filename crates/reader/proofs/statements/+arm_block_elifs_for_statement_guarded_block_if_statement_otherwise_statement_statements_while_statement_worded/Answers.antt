@@ -28,17 +28,17 @@ all_before : {a b d k : ℕ} → a < k → b < k → d < k → (ltb a k && (ltb 
 all_before {a} {b} {d} {k} x y z = ap (λ w. w && (ltb b k && ltb d k)) (lt-ltb a k x) ∙ both_before y z
 
 -- src/statements.rt:127:39
-pub arm-returns-in-err-condition : goal.arm-returns-in-err-condition
-arm-returns-in-err-condition t c =
+pub arm-returns-in_err-condition : goal.arm-returns-in_err-condition
+arm-returns-in_err-condition t c =
     let src = feed_source c.args.feed.now in
     let aa = (phrase src (arena_nodes c.args.arena.now) c.args.before).arms in
-    let bad = c.in-err-condition.ensures in
-    stopped c.from-residual.result _ c.from-residual.ensures.1 bad.kept (λ x. bad.leads (if_test aa c.args.place x))
+    let bad = c.in_err-condition.ensures in
+    stopped c.from_residual.result _ c.from_residual.ensures.1 bad.kept (λ x. bad.leads (if_test aa c.args.place x))
 
 -- src/statements.rt:128:8
 pub arm-store-requires : goal.arm-store-requires
 arm-store-requires t c =
-    let told = c.in-ok-condition.ensures in
+    let told = c.in_ok-condition.ensures in
     let more = kept_long told.kept in
     record {
       room = room_left told.kept c.requires.room (omega (arith, told.leads.spare));
@@ -50,13 +50,13 @@ pub arm-returns : goal.arm-returns
 arm-returns t c =
     let f = c.args.feed.now in
     let n = c.args.arena.now in
-    let g = c.guarded-block.new.feed in
-    let m = c.guarded-block.new.arena in
+    let g = c.guarded_block.new.feed in
+    let m = c.guarded_block.new.arena in
     let src = feed_source f in
     let p = c.args.place in
-    let a = c.in-ok-condition.field-0 in
+    let a = c.in_ok-condition.field-0 in
     let aa = (phrase src (arena_nodes n) c.args.before).arms in
-    let told = c.in-ok-condition.ensures in
+    let told = c.in_ok-condition.ensures in
     told_stored (Node.MoreArms c.args.before p a.condition a.body) (led told (λ (x : AroundAt c.args.depth). if_test aa p x))
     c.store.ensures.index c.store.ensures.nodes c.store.ensures.limit (omega (arith, told.leads.spare))
     (λ new x.
@@ -64,17 +64,17 @@ arm-returns t c =
     ∙ ap (λ (q : Phrase). limited 64 (coming g) (more q.arms x.body)) (sym new))
 
 -- src/statements.rt:154:16
-pub elifs-returns-in-err-arms : goal.elifs-returns-in-err-arms
-elifs-returns-in-err-arms t c =
+pub elifs-returns-in_err-arms : goal.elifs-returns-in_err-arms
+elifs-returns-in_err-arms t c =
     let g = c.loop-place.feed in
-    let h = c.take-if.new.feed in
+    let h = c.take_if.new.feed in
     let m = c.loop-place.arena in
     let before = c.loop-place.arms in
     let word : Passed (at (tree.mark tree.elif) c.in-Some.place) g h = record { first = c.in-Some.ensures.told; source = c.in-Some.ensures.source } in
-    let r = c.from-residual.result in
-    let e = c.from-residual.ensures.1 in
+    let r = c.from_residual.result in
+    let e = c.from_residual.ensures.1 in
     record {
-      told = stopped_on r e (λ x. x) (λ s (x : AroundAt c.args.depth). from_arm h m before c.in-Some.place s x) (elif_on before c.loop-place.invariant.1 word) c.in-err-arms.ensures;
+      told = stopped_on r e (λ x. x) (λ s (x : AroundAt c.args.depth). from_arm h m before c.in-Some.place s x) (elif_on before c.loop-place.invariant.1 word) c.in_err-arms.ensures;
       over = unmade _ _ r e;
     }
 
@@ -82,52 +82,52 @@ elifs-returns-in-err-arms t c =
 pub elifs-loop-place-preserved : goal.elifs-loop-place-preserved
 elifs-loop-place-preserved t c =
     let g = c.loop-place.feed in
-    let h = c.take-if.new.feed in
+    let h = c.take_if.new.feed in
     let before = c.loop-place.arms in
     let word : Passed (at (tree.mark tree.elif) c.in-Some.place) g h = record { first = c.in-Some.ensures.told; source = c.in-Some.ensures.source } in
-    let told = c.in-ok-arms.ensures in
-    (told.leads.stored, arm_on before c.in-Some.place c.in-ok-arms.arms (λ (x : AroundAt c.args.depth). x) (elif_on before c.loop-place.invariant.1 word) told)
+    let told = c.in_ok-arms.ensures in
+    (told.leads.stored, arm_on before c.in-Some.place c.in_ok-arms.arms (λ (x : AroundAt c.args.depth). x) (elif_on before c.loop-place.invariant.1 word) told)
 
 -- src/statements.rt:222:39
-pub for-statement-returns-in-err-condition : goal.for-statement-returns-in-err-condition
-for-statement-returns-in-err-condition t c =
+pub for_statement-returns-in_err-condition : goal.for_statement-returns-in_err-condition
+for_statement-returns-in_err-condition t c =
     let f = c.args.feed.now in
     let g = c.advance.new.self in
     let n = c.args.arena.now in
     let p = c.args.next.place in
     let word : Passed (at (tree.mark tree.for) p) f g = word_passed Mark.For c.args.next c.requires.facing c.requires.kind c.advance.ensures.coming c.advance.ensures.source in
-    let k = c.take-mark.new.feed in
-    let variable = c.in-ok-variable.variable in
+    let k = c.take_mark.new.feed in
+    let variable = c.in_ok-variable.variable in
     let v = spelled (feed_source f) variable in
-    let name : Passed (at (tree.name (spelled (feed_source g) variable)) variable.at) g c.take-name.new.feed = record { first = c.in-ok-variable.ensures.told; source = c.in-ok-variable.ensures.source } in
-    let within : Passed (at (tree.mark tree.within) c.in-ok-take-mark.ensures.told.0) c.take-name.new.feed k = record { first = c.in-ok-take-mark.ensures.told.1; source = c.in-ok-take-mark.ensures.source } in
+    let name : Passed (at (tree.name (spelled (feed_source g) variable)) variable.at) g c.take_name.new.feed = record { first = c.in_ok-variable.ensures.told; source = c.in_ok-variable.ensures.source } in
+    let within : Passed (at (tree.mark tree.within) c.in_ok-take_mark.ensures.told.0) c.take_name.new.feed k = record { first = c.in_ok-take_mark.ensures.told.1; source = c.in_ok-take_mark.ensures.source } in
     let begun = for_begun c.args.depth n variable word name within in
-    stopped_on c.from-residual-in-err-condition.result c.from-residual-in-err-condition.ensures.1 (for_test p v) (λ s (x : TestAt c.args.depth). from_test k x) begun c.in-err-condition.ensures
+    stopped_on c.from_residual-in_err-condition.result c.from_residual-in_err-condition.ensures.1 (for_test p v) (λ s (x : TestAt c.args.depth). from_test k x) begun c.in_err-condition.ensures
 
 -- src/statements.rt:207:1
-pub for-statement-returns : goal.for-statement-returns
-for-statement-returns t c =
+pub for_statement-returns : goal.for_statement-returns
+for_statement-returns t c =
     let f = c.args.feed.now in
     let g = c.advance.new.self in
     let n = c.args.arena.now in
     let p = c.args.next.place in
     let word : Passed (at (tree.mark tree.for) p) f g = word_passed Mark.For c.args.next c.requires.facing c.requires.kind c.advance.ensures.coming c.advance.ensures.source in
-    let k = c.take-mark.new.feed in
-    let variable = c.in-ok-variable.variable in
+    let k = c.take_mark.new.feed in
+    let variable = c.in_ok-variable.variable in
     let v = spelled (feed_source f) variable in
-    let name : Passed (at (tree.name (spelled (feed_source g) variable)) variable.at) g c.take-name.new.feed = record { first = c.in-ok-variable.ensures.told; source = c.in-ok-variable.ensures.source } in
-    let within : Passed (at (tree.mark tree.within) c.in-ok-take-mark.ensures.told.0) c.take-name.new.feed k = record { first = c.in-ok-take-mark.ensures.told.1; source = c.in-ok-take-mark.ensures.source } in
+    let name : Passed (at (tree.name (spelled (feed_source g) variable)) variable.at) g c.take_name.new.feed = record { first = c.in_ok-variable.ensures.told; source = c.in_ok-variable.ensures.source } in
+    let within : Passed (at (tree.mark tree.within) c.in_ok-take_mark.ensures.told.0) c.take_name.new.feed k = record { first = c.in_ok-take_mark.ensures.told.1; source = c.in_ok-take_mark.ensures.source } in
     let begun = for_begun c.args.depth n variable word name within in
-    let h = c.guarded-block.new.feed in
-    let a = c.in-ok-condition.field-0 in
-    let told = c.in-ok-condition.ensures in
+    let h = c.guarded_block.new.feed in
+    let a = c.in_ok-condition.field-0 in
+    let told = c.in_ok-condition.ensures in
     told_stored (Node.For p variable a.condition a.body) (block_on a (for_test p v) begun told)
     c.store.ensures.index c.store.ensures.nodes c.store.ensures.limit (omega (arith, begun.kept.cost, told.leads.spare))
     (λ new x. ap (λ (q : Phrase). limited 64 (coming h) (start (add q.stmt x.body))) (sym new))
 
 -- src/statements.rt:107:9
-pub if-statement-store-none-requires : goal.if-statement-store-none-requires
-if-statement-store-none-requires t c =
+pub if_statement-store-none-requires : goal.if_statement-store-none-requires
+if_statement-store-none-requires t c =
     let f = c.args.feed.now in
     let g = c.advance.new.self in
     let n = c.args.arena.now in
@@ -138,8 +138,8 @@ if-statement-store-none-requires t c =
     record { room = omega (arith, long, one, c.store-nothing.ensures.limit, c.requires.room); placed = refl }
 
 -- src/statements.rt:108:17
-pub if-statement-arm-requires : goal.if-statement-arm-requires
-if-statement-arm-requires t c =
+pub if_statement-arm-requires : goal.if_statement-arm-requires
+if_statement-arm-requires t c =
     let f = c.args.feed.now in
     let g = c.advance.new.self in
     let n = c.args.arena.now in
@@ -151,8 +151,8 @@ if-statement-arm-requires t c =
     (search rules, (room_on begun.kept c.requires.room, (c.requires.deep, omega (arith, one, c.store-none.ensures.index))))
 
 -- src/statements.rt:108:17
-pub if-statement-returns-in-err-first : goal.if-statement-returns-in-err-first
-if-statement-returns-in-err-first t c =
+pub if_statement-returns-in_err-first : goal.if_statement-returns-in_err-first
+if_statement-returns-in_err-first t c =
     let f = c.args.feed.now in
     let g = c.advance.new.self in
     let n = c.args.arena.now in
@@ -160,11 +160,11 @@ if-statement-returns-in-err-first t c =
     let word : Passed (at (tree.mark tree.if) p) f g = word_passed Mark.If c.args.next c.requires.facing c.requires.kind c.advance.ensures.coming c.advance.ensures.source in
     let none = c.store-none.result in
     let begun = if_begun c.args.depth n c.store-nothing.new.arena c.store-none.new.arena word c.store-nothing.ensures.nodes c.store-nothing.ensures.limit c.store-none.ensures.index c.store-none.ensures.nodes c.store-none.ensures.limit in
-    stopped_on c.from-residual.result c.from-residual.ensures.1 around (λ s (x : AroundAt c.args.depth). from_arm g c.store-none.new.arena none p s x) begun c.in-err-first.ensures
+    stopped_on c.from_residual.result c.from_residual.ensures.1 around (λ s (x : AroundAt c.args.depth). from_arm g c.store-none.new.arena none p s x) begun c.in_err-first.ensures
 
 -- src/statements.rt:109:16
-pub if-statement-elifs-requires : goal.if-statement-elifs-requires
-if-statement-elifs-requires t c =
+pub if_statement-elifs-requires : goal.if_statement-elifs-requires
+if_statement-elifs-requires t c =
     let f = c.args.feed.now in
     let g = c.advance.new.self in
     let n = c.args.arena.now in
@@ -172,12 +172,12 @@ if-statement-elifs-requires t c =
     let word : Passed (at (tree.mark tree.if) p) f g = word_passed Mark.If c.args.next c.requires.facing c.requires.kind c.advance.ensures.coming c.advance.ensures.source in
     let none = c.store-none.result in
     let begun = if_begun c.args.depth n c.store-nothing.new.arena c.store-none.new.arena word c.store-nothing.ensures.nodes c.store-nothing.ensures.limit c.store-none.ensures.index c.store-none.ensures.nodes c.store-none.ensures.limit in
-    let first = arm_on none p c.in-ok-first.first around begun c.in-ok-first.ensures in
-    (search rules, (room_on first.kept c.requires.room, (c.requires.deep, c.in-ok-first.ensures.leads.stored)))
+    let first = arm_on none p c.in_ok-first.first around begun c.in_ok-first.ensures in
+    (search rules, (room_on first.kept c.requires.room, (c.requires.deep, c.in_ok-first.ensures.leads.stored)))
 
 -- src/statements.rt:109:16
-pub if-statement-returns-in-err-arms : goal.if-statement-returns-in-err-arms
-if-statement-returns-in-err-arms t c =
+pub if_statement-returns-in_err-arms : goal.if_statement-returns-in_err-arms
+if_statement-returns-in_err-arms t c =
     let f = c.args.feed.now in
     let g = c.advance.new.self in
     let n = c.args.arena.now in
@@ -185,12 +185,12 @@ if-statement-returns-in-err-arms t c =
     let word : Passed (at (tree.mark tree.if) p) f g = word_passed Mark.If c.args.next c.requires.facing c.requires.kind c.advance.ensures.coming c.advance.ensures.source in
     let none = c.store-none.result in
     let begun = if_begun c.args.depth n c.store-nothing.new.arena c.store-none.new.arena word c.store-nothing.ensures.nodes c.store-nothing.ensures.limit c.store-none.ensures.index c.store-none.ensures.nodes c.store-none.ensures.limit in
-    let first = arm_on none p c.in-ok-first.first around begun c.in-ok-first.ensures in
-    stopped_on c.from-residual-in-err-arms.result c.from-residual-in-err-arms.ensures.1 around (λ s (x : AroundAt c.args.depth). past_arms c.arm.new.feed c.arm.new.arena s c.in-ok-first.first x) first c.in-err-arms.ensures.told
+    let first = arm_on none p c.in_ok-first.first around begun c.in_ok-first.ensures in
+    stopped_on c.from_residual-in_err-arms.result c.from_residual-in_err-arms.ensures.1 around (λ s (x : AroundAt c.args.depth). past_arms c.arm.new.feed c.arm.new.arena s c.in_ok-first.first x) first c.in_err-arms.ensures.told
 
 -- src/statements.rt:110:21
-pub if-statement-otherwise-requires : goal.if-statement-otherwise-requires
-if-statement-otherwise-requires t c =
+pub if_statement-otherwise-requires : goal.if_statement-otherwise-requires
+if_statement-otherwise-requires t c =
     let f = c.args.feed.now in
     let g = c.advance.new.self in
     let n = c.args.arena.now in
@@ -198,24 +198,24 @@ if-statement-otherwise-requires t c =
     let word : Passed (at (tree.mark tree.if) p) f g = word_passed Mark.If c.args.next c.requires.facing c.requires.kind c.advance.ensures.coming c.advance.ensures.source in
     let none = c.store-none.result in
     let begun = if_begun c.args.depth n c.store-nothing.new.arena c.store-none.new.arena word c.store-nothing.ensures.nodes c.store-nothing.ensures.limit c.store-none.ensures.index c.store-none.ensures.nodes c.store-none.ensures.limit in
-    let first = arm_on none p c.in-ok-first.first around begun c.in-ok-first.ensures in
-    let arms = arms_on c.in-ok-first.first c.in-ok-arms.arms around first c.in-ok-arms.ensures.told in
+    let first = arm_on none p c.in_ok-first.first around begun c.in_ok-first.ensures in
+    let arms = arms_on c.in_ok-first.first c.in_ok-arms.arms around first c.in_ok-arms.ensures.told in
     let i = c.store-nothing.result in
     let m = c.store-nothing.new.arena in
     let l = c.store-none.new.arena in
     let src = feed_source c.elifs.new.feed in
-    let on : Kept g l c.elifs.new.feed c.elifs.new.arena = kept_then c.in-ok-first.ensures.kept c.in-ok-arms.ensures.told.kept in
+    let on : Kept g l c.elifs.new.feed c.elifs.new.arena = kept_then c.in_ok-first.ensures.kept c.in_ok-arms.ensures.told.kept in
     let one = ap length c.store-nothing.ensures.nodes ∙ length-append (arena_nodes n) (Node.NoStatements ∷ []) in
     let two = ap length c.store-none.ensures.nodes ∙ length-append (arena_nodes m) (Node.NoArms ∷ []) in
     let here : i < length (arena_nodes m) = omega (arith, one, c.store-nothing.ensures.index) in
     let then : i < length (arena_nodes l) = omega (arith, two, here) in
     let empty : (phrase src (arena_nodes c.elifs.new.arena) i).stmts ≡ tree.empty =
     ap (λ (q : Phrase). q.stmts) (kept_phrase src i on then ∙ stays src (arena_nodes m) (arena_nodes l) (Node.NoArms ∷ []) i here c.store-none.ensures.nodes ∙ stored_phrase n m Node.NoStatements i src c.store-nothing.ensures.index c.store-nothing.ensures.nodes) in
-    (search rules, (room_on arms.kept c.requires.room, (c.requires.deep, (c.in-ok-arms.ensures.over, (omega (arith, kept_long on, then), empty)))))
+    (search rules, (room_on arms.kept c.requires.room, (c.requires.deep, (c.in_ok-arms.ensures.over, (omega (arith, kept_long on, then), empty)))))
 
 -- src/statements.rt:110:21
-pub if-statement-returns-in-err-otherwise : goal.if-statement-returns-in-err-otherwise
-if-statement-returns-in-err-otherwise t c =
+pub if_statement-returns-in_err-otherwise : goal.if_statement-returns-in_err-otherwise
+if_statement-returns-in_err-otherwise t c =
     let f = c.args.feed.now in
     let g = c.advance.new.self in
     let n = c.args.arena.now in
@@ -223,15 +223,15 @@ if-statement-returns-in-err-otherwise t c =
     let word : Passed (at (tree.mark tree.if) p) f g = word_passed Mark.If c.args.next c.requires.facing c.requires.kind c.advance.ensures.coming c.advance.ensures.source in
     let none = c.store-none.result in
     let begun = if_begun c.args.depth n c.store-nothing.new.arena c.store-none.new.arena word c.store-nothing.ensures.nodes c.store-nothing.ensures.limit c.store-none.ensures.index c.store-none.ensures.nodes c.store-none.ensures.limit in
-    let first = arm_on none p c.in-ok-first.first around begun c.in-ok-first.ensures in
-    let arms = arms_on c.in-ok-first.first c.in-ok-arms.arms around first c.in-ok-arms.ensures.told in
+    let first = arm_on none p c.in_ok-first.first around begun c.in_ok-first.ensures in
+    let arms = arms_on c.in_ok-first.first c.in_ok-arms.arms around first c.in_ok-arms.ensures.told in
     let k = c.elifs.new.feed in
-    let ways = (phrase (feed_source f) (arena_nodes c.elifs.new.arena) c.in-ok-arms.arms).arms in
-    stopped_on c.from-residual-in-err-otherwise.result c.from-residual-in-err-otherwise.ensures.1 (if_ways ways) (λ s (x : ArmsAt c.args.depth). limited 64 (coming k) (more x.ways x.body)) arms c.in-err-otherwise.ensures
+    let ways = (phrase (feed_source f) (arena_nodes c.elifs.new.arena) c.in_ok-arms.arms).arms in
+    stopped_on c.from_residual-in_err-otherwise.result c.from_residual-in_err-otherwise.ensures.1 (if_ways ways) (λ s (x : ArmsAt c.args.depth). limited 64 (coming k) (more x.ways x.body)) arms c.in_err-otherwise.ensures
 
 -- src/statements.rt:111:8
-pub if-statement-store-requires : goal.if-statement-store-requires
-if-statement-store-requires t c =
+pub if_statement-store-requires : goal.if_statement-store-requires
+if_statement-store-requires t c =
     let f = c.args.feed.now in
     let g = c.advance.new.self in
     let n = c.args.arena.now in
@@ -239,18 +239,18 @@ if-statement-store-requires t c =
     let word : Passed (at (tree.mark tree.if) p) f g = word_passed Mark.If c.args.next c.requires.facing c.requires.kind c.advance.ensures.coming c.advance.ensures.source in
     let none = c.store-none.result in
     let begun = if_begun c.args.depth n c.store-nothing.new.arena c.store-none.new.arena word c.store-nothing.ensures.nodes c.store-nothing.ensures.limit c.store-none.ensures.index c.store-none.ensures.nodes c.store-none.ensures.limit in
-    let first = arm_on none p c.in-ok-first.first around begun c.in-ok-first.ensures in
-    let arms = arms_on c.in-ok-first.first c.in-ok-arms.arms around first c.in-ok-arms.ensures.told in
-    let told = c.in-ok-otherwise.ensures in
+    let first = arm_on none p c.in_ok-first.first around begun c.in_ok-first.ensures in
+    let arms = arms_on c.in_ok-first.first c.in_ok-arms.arms around first c.in_ok-arms.ensures.told in
+    let told = c.in_ok-otherwise.ensures in
     let more = kept_long told.kept in
     record {
-      room = room_left (kept_then arms.kept told.kept) c.requires.room (omega (arith, begun.kept.cost, c.in-ok-first.ensures.leads.spare, c.in-ok-arms.ensures.told.leads.spare, told.leads.spare));
-      placed = both_before (omega (arith, more, c.in-ok-arms.ensures.told.leads.stored)) told.leads.stored;
+      room = room_left (kept_then arms.kept told.kept) c.requires.room (omega (arith, begun.kept.cost, c.in_ok-first.ensures.leads.spare, c.in_ok-arms.ensures.told.leads.spare, told.leads.spare));
+      placed = both_before (omega (arith, more, c.in_ok-arms.ensures.told.leads.stored)) told.leads.stored;
     }
 
 -- src/statements.rt:93:1
-pub if-statement-returns : goal.if-statement-returns
-if-statement-returns t c =
+pub if_statement-returns : goal.if_statement-returns
+if_statement-returns t c =
     let f = c.args.feed.now in
     let g = c.advance.new.self in
     let n = c.args.arena.now in
@@ -258,34 +258,34 @@ if-statement-returns t c =
     let word : Passed (at (tree.mark tree.if) p) f g = word_passed Mark.If c.args.next c.requires.facing c.requires.kind c.advance.ensures.coming c.advance.ensures.source in
     let none = c.store-none.result in
     let begun = if_begun c.args.depth n c.store-nothing.new.arena c.store-none.new.arena word c.store-nothing.ensures.nodes c.store-nothing.ensures.limit c.store-none.ensures.index c.store-none.ensures.nodes c.store-none.ensures.limit in
-    let first = arm_on none p c.in-ok-first.first around begun c.in-ok-first.ensures in
-    let arms = arms_on c.in-ok-first.first c.in-ok-arms.arms around first c.in-ok-arms.ensures.told in
+    let first = arm_on none p c.in_ok-first.first around begun c.in_ok-first.ensures in
+    let arms = arms_on c.in_ok-first.first c.in_ok-arms.arms around first c.in_ok-arms.ensures.told in
     let k = c.otherwise.new.feed in
     let m = c.elifs.new.arena in
     let l = c.otherwise.new.arena in
     let src = feed_source f in
-    let i = c.in-ok-arms.arms in
-    let told = c.in-ok-otherwise.ensures in
+    let i = c.in_ok-arms.arms in
+    let told = c.in_ok-otherwise.ensures in
     let ways = (phrase src (arena_nodes m) i).arms in
-    told_stored (Node.If i c.in-ok-otherwise.otherwise)
+    told_stored (Node.If i c.in_ok-otherwise.otherwise)
     (led_on (if_ways ways) (λ s (x : ArmsAt c.args.depth). limited 64 (coming c.elifs.new.feed) (more x.ways x.body)) (λ s j x. limited 64 (coming k) (start (add (tree.choose x.ways (phrase s (arena_nodes l) j).stmts) x.body))) arms told)
     c.store.ensures.index c.store.ensures.nodes c.store.ensures.limit
-    (omega (arith, begun.kept.cost, c.in-ok-first.ensures.leads.spare, c.in-ok-arms.ensures.told.leads.spare, told.leads.spare))
+    (omega (arith, begun.kept.cost, c.in_ok-first.ensures.leads.spare, c.in_ok-arms.ensures.told.leads.spare, told.leads.spare))
     (λ new x.
-    ap (λ (q : Phrase). limited 64 (coming k) (start (add (tree.choose q.arms (phrase src (arena_nodes l) c.in-ok-otherwise.otherwise).stmts) x.body))) (sym (kept_phrase src i told.kept c.in-ok-arms.ensures.told.leads.stored))
+    ap (λ (q : Phrase). limited 64 (coming k) (start (add (tree.choose q.arms (phrase src (arena_nodes l) c.in_ok-otherwise.otherwise).stmts) x.body))) (sym (kept_phrase src i told.kept c.in_ok-arms.ensures.told.leads.stored))
     ∙ ap (λ (q : Phrase). limited 64 (coming k) (start (add q.stmt x.body))) (sym new))
 
 -- src/statements.rt:160:1
-pub otherwise-returns-in-ok-take-mark : goal.otherwise-returns-in-ok-take-mark
-otherwise-returns-in-ok-take-mark t c =
+pub otherwise-returns-in_ok-take_mark : goal.otherwise-returns-in_ok-take_mark
+otherwise-returns-in_ok-take_mark t c =
     let f = c.args.feed.now in
     let g = c.passes.new.feed in
-    let h = c.take-mark.new.feed in
+    let h = c.take_mark.new.feed in
     let k = c.block.new.feed in
     let n = c.args.arena.now in
     let m = c.block.new.arena in
     let came = c.if-passes.ensures in
-    let colon = c.in-ok-take-mark.ensures in
+    let colon = c.in_ok-take_mark.ensures in
     let word : Passed (at (tree.mark tree.else) came.told.0) f g = record { first = came.told.1; source = came.source } in
     let mark : Passed (at (tree.mark tree.colon) colon.told.0) g h = record { first = colon.told.1; source = colon.source } in
     let block : ArmsAt c.args.depth → State = λ x. start (other x.ways tree.empty x.body) in
@@ -316,59 +316,59 @@ otherwise-returns-else-passes t c =
     }
 
 -- src/statements.rt:195:39
-pub while-statement-returns-in-err-condition : goal.while-statement-returns-in-err-condition
-while-statement-returns-in-err-condition t c =
+pub while_statement-returns-in_err-condition : goal.while_statement-returns-in_err-condition
+while_statement-returns-in_err-condition t c =
     let f = c.args.feed.now in
     let g = c.advance.new.self in
     let n = c.args.arena.now in
     let p = c.args.next.place in
     let word : Passed (at (tree.mark tree.while) p) f g = word_passed Mark.While c.args.next c.requires.facing c.requires.kind c.advance.ensures.coming c.advance.ensures.source in
     let begun = while_begun c.args.depth n word in
-    stopped_on c.from-residual.result c.from-residual.ensures.1 (while_test p) (λ s (x : TestAt c.args.depth). from_test g x) begun c.in-err-condition.ensures
+    stopped_on c.from_residual.result c.from_residual.ensures.1 (while_test p) (λ s (x : TestAt c.args.depth). from_test g x) begun c.in_err-condition.ensures
 
 -- src/statements.rt:182:1
-pub while-statement-returns : goal.while-statement-returns
-while-statement-returns t c =
+pub while_statement-returns : goal.while_statement-returns
+while_statement-returns t c =
     let f = c.args.feed.now in
     let g = c.advance.new.self in
     let n = c.args.arena.now in
     let p = c.args.next.place in
     let word : Passed (at (tree.mark tree.while) p) f g = word_passed Mark.While c.args.next c.requires.facing c.requires.kind c.advance.ensures.coming c.advance.ensures.source in
     let begun = while_begun c.args.depth n word in
-    let h = c.guarded-block.new.feed in
-    let a = c.in-ok-condition.field-0 in
-    let told = c.in-ok-condition.ensures in
+    let h = c.guarded_block.new.feed in
+    let a = c.in_ok-condition.field-0 in
+    let told = c.in_ok-condition.ensures in
     let long = passed_long word in
     told_stored (Node.While p a.condition a.body) (block_on a (while_test p) begun told)
     c.store.ensures.index c.store.ensures.nodes c.store.ensures.limit (omega (arith, long, told.leads.spare))
     (λ new x. ap (λ (q : Phrase). limited 64 (coming h) (start (add q.stmt x.body))) (sym new))
 
 -- src/statements.rt:255:5
-pub block-returns-in-err-take-indented : goal.block-returns-in-err-take-indented
-block-returns-in-err-take-indented t c =
-    let bad = c.in-err-take-indented.ensures.told in
-    stopped c.from-residual.result _ c.from-residual.ensures.1 (kept_taken c.args.arena.now bad.source bad.fewer) (λ x. bad.gets (block_inward x))
+pub block-returns-in_err-take_indented : goal.block-returns-in_err-take_indented
+block-returns-in_err-take_indented t c =
+    let bad = c.in_err-take_indented.ensures.told in
+    stopped c.from_residual.result _ c.from_residual.ensures.1 (kept_taken c.args.arena.now bad.source bad.fewer) (λ x. bad.gets (block_inward x))
 
 -- src/statements.rt:257:16
 pub block-statement-requires : goal.block-statement-requires
 block-statement-requires t c =
-    let told = c.in-ok-take-indented.ensures in
+    let told = c.in_ok-take_indented.ensures in
     let one = ap length c.store-before.ensures.nodes ∙ length-append (arena_nodes c.args.arena.now) (NoStatements ∷ []) in
     (omega (arith, told.below), (omega (arith, c.requires.room, told.told.gets.count, c.store-before.ensures.limit, one), omega (arith, told.below)))
 
 -- src/statements.rt:257:16
-pub block-returns-in-err-last : goal.block-returns-in-err-last
-block-returns-in-err-last t c =
-    let told = c.in-ok-take-indented.ensures.told in
-    let bad = c.in-err-last.ensures in
-    stopped_behind c.from-residual-in-err-last.result _ c.from-residual-in-err-last.ensures.1 (block_opened told c.store-before.ensures.nodes c.store-before.ensures.limit) bad.kept
-    (λ x. bad.leads (block_first (coming c.take-indented.new.feed) x))
+pub block-returns-in_err-last : goal.block-returns-in_err-last
+block-returns-in_err-last t c =
+    let told = c.in_ok-take_indented.ensures.told in
+    let bad = c.in_err-last.ensures in
+    stopped_behind c.from_residual-in_err-last.result _ c.from_residual-in_err-last.ensures.1 (block_opened told c.store-before.ensures.nodes c.store-before.ensures.limit) bad.kept
+    (λ x. bad.leads (block_first (coming c.take_indented.new.feed) x))
 
 -- src/statements.rt:258:9
 pub block-store-first-requires : goal.block-store-first-requires
 block-store-first-requires t c =
-    let told = c.in-ok-take-indented.ensures.told in
-    let first = c.in-ok-last.ensures in
+    let told = c.in_ok-take_indented.ensures.told in
+    let first = c.in_ok-last.ensures in
     let more = kept_long first.kept in
     let one = ap length c.store-before.ensures.nodes ∙ length-append (arena_nodes c.args.arena.now) (NoStatements ∷ []) in
     record {
@@ -379,57 +379,57 @@ block-store-first-requires t c =
 -- src/statements.rt:259:5
 pub block-statements-requires : goal.block-statements-requires
 block-statements-requires t c =
-    let told = c.in-ok-take-indented.ensures in
+    let told = c.in_ok-take_indented.ensures in
     let first : Begun c.args.depth c.args.feed.now c.args.arena.now c.statement.new.feed c.store-first.new.arena c.store-first.result =
-    block_begun told.told c.store-before.ensures.index c.store-before.ensures.nodes c.store-before.ensures.limit c.in-ok-last.ensures c.store-first.ensures.index c.store-first.ensures.nodes c.store-first.ensures.limit in
+    block_begun told.told c.store-before.ensures.index c.store-before.ensures.nodes c.store-before.ensures.limit c.in_ok-last.ensures c.store-first.ensures.index c.store-first.ensures.nodes c.store-first.ensures.limit in
     (omega (arith, told.below), (room_on first.reads.kept c.requires.room, (omega (arith, told.below), (first.stored, first.filled))))
 
 -- src/statements.rt:250:1
 pub block-returns : goal.block-returns
 block-returns t c =
-    let told = c.in-ok-take-indented.ensures in
+    let told = c.in_ok-take_indented.ensures in
     let first : Begun c.args.depth c.args.feed.now c.args.arena.now c.statement.new.feed c.store-first.new.arena c.store-first.result =
-    block_begun told.told c.store-before.ensures.index c.store-before.ensures.nodes c.store-before.ensures.limit c.in-ok-last.ensures c.store-first.ensures.index c.store-first.ensures.nodes c.store-first.ensures.limit in
+    block_begun told.told c.store-before.ensures.index c.store-before.ensures.nodes c.store-before.ensures.limit c.in_ok-last.ensures c.store-first.ensures.index c.store-first.ensures.nodes c.store-first.ensures.limit in
     block_told c.statements.result first c.statements.ensures
 
 -- src/statements.rt:242:16
-pub guarded-block-returns-in-err-body : goal.guarded-block-returns-in-err-body
-guarded-block-returns-in-err-body t c =
+pub guarded_block-returns-in_err-body : goal.guarded_block-returns-in_err-body
+guarded_block-returns-in_err-body t c =
     let f = c.args.feed.now in
     let g = c.expression.new.feed in
-    let h = c.take-mark.new.feed in
+    let h = c.take_mark.new.feed in
     let m = c.expression.new.arena in
-    let r = c.in-ok-condition.condition in
-    let ok = c.in-ok-condition.ensures in
-    let colon = c.in-ok-take-mark.ensures in
-    let bad = c.in-err-body.ensures in
+    let r = c.in_ok-condition.condition in
+    let ok = c.in_ok-condition.ensures in
+    let colon = c.in_ok-take_mark.ensures in
+    let bad = c.in_err-body.ensures in
     let p : Passed (at (tree.mark tree.colon) colon.told.0) g h = record { first = colon.told.1; source = colon.source } in
-    stopped_behind c.from-residual-in-err-body.result _ c.from-residual-in-err-body.ensures.1 (tested_colon r ok.told p) bad.kept
+    stopped_behind c.from_residual-in_err-body.result _ c.from_residual-in_err-body.ensures.1 (tested_colon r ok.told p) bad.kept
     (λ x. bad.leads (nested (read_expr (feed_source f) (arena_nodes m) r) x))
 
 -- src/statements.rt:235:1
-pub guarded-block-returns : goal.guarded-block-returns
-guarded-block-returns t c =
+pub guarded_block-returns : goal.guarded_block-returns
+guarded_block-returns t c =
     let g = c.expression.new.feed in
-    let h = c.take-mark.new.feed in
-    let ok = c.in-ok-condition.ensures in
-    let colon = c.in-ok-take-mark.ensures in
+    let h = c.take_mark.new.feed in
+    let ok = c.in_ok-condition.ensures in
+    let colon = c.in_ok-take_mark.ensures in
     let p : Passed (at (tree.mark tree.colon) colon.told.0) g h = record { first = colon.told.1; source = colon.source } in
-    guarded c.in-ok-condition.condition c.in-ok-body.body ok.told p c.in-ok-body.ensures
+    guarded c.in_ok-condition.condition c.in_ok-body.body ok.told p c.in_ok-body.ensures
 
 -- src/statements.rt:42:1
 pub statement-returns-in-Mark : goal.statement-returns-in-Mark
 statement-returns-in-Mark t c = settled_told {f = c.args.feed.now} {g = c.worded.new.feed} {n = c.args.arena.now} {m = c.worded.new.arena} c.worded.result c.worded.ensures
 
 -- src/statements.rt:278:20
-pub statements-returns-in-err-last : goal.statements-returns-in-err-last
-statements-returns-in-err-last t c =
+pub statements-returns-in_err-last : goal.statements-returns-in_err-last
+statements-returns-in_err-last t c =
     let no = c.loop-close-test.ensures in
     let inv = c.loop-close.invariant in
-    let bad = c.in-err-last.ensures in
+    let bad = c.in_err-last.ensures in
     let g = c.passes.new.feed in
     let ss = (phrase (feed_source c.args.feed.now) (arena_nodes c.loop-close.arena) c.loop-close.before).stmts in
-    stopped_behind c.from-residual.result _ c.from-residual.ensures.1
+    stopped_behind c.from_residual.result _ c.from_residual.ensures.1
     (still_there {g = g} (λ (x : Sequel c.args.close c.args.depth). start (x.body ss)) inv.2 no.told.0 no.source) bad.kept
     (λ x. bad.leads (sequel_next ss inv.1 (coming g) (subst (Another c.args.close) (sym no.told.0) no.told.1) x))
 
@@ -438,7 +438,7 @@ pub statements-store-before-requires : goal.statements-store-before-requires
 statements-store-before-requires t c =
     let no = c.loop-close-test.ensures in
     let inv = c.loop-close.invariant in
-    let told = c.in-ok-last.ensures in
+    let told = c.in_ok-last.ensures in
     let more = kept_long told.kept in
     let still = ap length no.told.0 in
     record {
@@ -449,7 +449,7 @@ statements-store-before-requires t c =
 -- src/statements.rt:277:5
 pub statements-loop-close-smaller : goal.statements-loop-close-smaller
 statements-loop-close-smaller t c =
-    let told = c.in-ok-last.ensures in
+    let told = c.in_ok-last.ensures in
     let more = kept_long told.kept in
     let still = ap length c.loop-close-test.ensures.told.0 in
     omega (arith, told.leads.spare, more, still)
@@ -458,7 +458,7 @@ statements-loop-close-smaller t c =
 pub statements-loop-close-preserved : goal.statements-loop-close-preserved
 statements-loop-close-preserved t c =
     let no = c.loop-close-test.ensures in
-    one_more {g = c.passes.new.feed} {m = c.statement.new.arena} c.loop-close.invariant no.told.0 no.source no.told.1 c.in-ok-last.ensures c.store-before.ensures.index c.store-before.ensures.nodes c.store-before.ensures.limit
+    one_more {g = c.passes.new.feed} {m = c.statement.new.arena} c.loop-close.invariant no.told.0 no.source no.told.1 c.in_ok-last.ensures c.store-before.ensures.index c.store-before.ensures.nodes c.store-before.ensures.limit
 
 -- src/statements.rt:263:1
 pub statements-returns : goal.statements-returns
@@ -481,5 +481,5 @@ worded-returns-in-Nothing t c =
     let f = c.args.feed.now in
     let q = c.args.next.place in
     let face = faced (feed_source f) c.args.next (coming f) (Kind.Mark c.args.mark) c.requires.facing c.requires.kind in
-    let bars = subst (λ k. Bars (at (kind_model (feed_source f) q k) q) c.stop-at.result) c.requires.kind (c.stop-at.ensures (feed_source f)) in
-    record { kept = kept_all f c.args.arena.now; leads = no_word c.args.mark q _ (coming f) c.stop-at.result (sym c.in-Nothing.ensures) face bars }
+    let bars = subst (λ k. Bars (at (kind_model (feed_source f) q k) q) c.stop_at.result) c.requires.kind (c.stop_at.ensures (feed_source f)) in
+    record { kept = kept_all f c.args.arena.now; leads = no_word c.args.mark q _ (coming f) c.stop_at.result (sym c.in-Nothing.ensures) face bars }

@@ -18,14 +18,14 @@ decreases-statement l = 20 * (64 - l.depth) + 9
 abbrev pub decreases-worded : goal.decreases-worded
 decreases-worded l = 20 * (64 - l.depth) + 8
 
-abbrev pub decreases-if-statement : goal.decreases-if-statement
-decreases-if-statement l = 20 * (64 - l.depth) + 7
+abbrev pub decreases-if_statement : goal.decreases-if_statement
+decreases-if_statement l = 20 * (64 - l.depth) + 7
 
-abbrev pub decreases-while-statement : goal.decreases-while-statement
-decreases-while-statement l = 20 * (64 - l.depth) + 7
+abbrev pub decreases-while_statement : goal.decreases-while_statement
+decreases-while_statement l = 20 * (64 - l.depth) + 7
 
-abbrev pub decreases-for-statement : goal.decreases-for-statement
-decreases-for-statement l = 20 * (64 - l.depth) + 7
+abbrev pub decreases-for_statement : goal.decreases-for_statement
+decreases-for_statement l = 20 * (64 - l.depth) + 7
 
 abbrev pub decreases-elifs : goal.decreases-elifs
 decreases-elifs l = 20 * (64 - l.depth) + 6
@@ -36,8 +36,8 @@ decreases-arm l = 20 * (64 - l.depth) + 5
 abbrev pub decreases-otherwise : goal.decreases-otherwise
 decreases-otherwise l = 20 * (64 - l.depth) + 5
 
-abbrev pub decreases-guarded-block : goal.decreases-guarded-block
-decreases-guarded-block l = 20 * (64 - l.depth) + 4
+abbrev pub decreases-guarded_block : goal.decreases-guarded_block
+decreases-guarded_block l = 20 * (64 - l.depth) + 4
 
 -- its statements are one level further in
 abbrev pub decreases-block : goal.decreases-block

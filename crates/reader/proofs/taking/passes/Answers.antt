@@ -12,6 +12,6 @@ came m ts us (Some q) h = (q, h)
 pub returns : goal.returns
 returns c =
     record {
-      told = subst (PassTold c.args.mark (coming c.args.feed.now) (coming c.take-if.new.feed)) (sym c.is-some.ensures) (came c.args.mark (coming c.args.feed.now) (coming c.take-if.new.feed) c.take-if.result c.take-if.ensures.told);
-      source = c.take-if.ensures.source;
+      told = subst (PassTold c.args.mark (coming c.args.feed.now) (coming c.take_if.new.feed)) (sym c.is_some.ensures) (came c.args.mark (coming c.args.feed.now) (coming c.take_if.new.feed) c.take_if.result c.take_if.ensures.told);
+      source = c.take_if.ensures.source;
     }

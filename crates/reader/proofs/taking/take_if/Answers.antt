@@ -7,8 +7,8 @@ use Rattle.reader.specs.Taking.{Another}
 use Rattle.reader.proofs.MarkFacts.{marked, unmarked}
 use Rattle.reader.proofs.taking.take_if.Goals as goal
 
-pub returns-then-is-mark : goal.returns-then-is-mark
-returns-then-is-mark c =
+pub returns-then-is_mark : goal.returns-then-is_mark
+returns-then-is_mark c =
     let f = c.args.feed.now in
     let n = c.in-Some.next in
     let told = c.in-Some.ensures in
@@ -18,8 +18,8 @@ returns-then-is-mark c =
       source = c.advance.ensures.source;
     }
 
-pub returns-else-is-mark : goal.returns-else-is-mark
-returns-else-is-mark c =
+pub returns-else-is_mark : goal.returns-else-is_mark
+returns-else-is_mark c =
     let f = c.args.feed.now in
     let n = c.in-Some.next in
     let told = c.in-Some.ensures in

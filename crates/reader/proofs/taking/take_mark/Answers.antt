@@ -7,8 +7,8 @@ use Rattle.reader.specs.Taking.{NoMark}
 use Rattle.reader.proofs.MarkFacts.{marked, unmarked}
 use Rattle.reader.proofs.taking.take_mark.Goals as goal
 
-pub returns-then-is-mark : goal.returns-then-is-mark
-returns-then-is-mark c =
+pub returns-then-is_mark : goal.returns-then-is_mark
+returns-then-is_mark c =
     let f = c.args.feed.now in
     let n = c.in-Some.next in
     let told = c.in-Some.ensures in
@@ -18,13 +18,13 @@ returns-then-is-mark c =
       source = c.advance.ensures.source;
     }
 
-pub returns-else-is-mark : goal.returns-else-is-mark
-returns-else-is-mark c =
+pub returns-else-is_mark : goal.returns-else-is_mark
+returns-else-is_mark c =
     let f = c.args.feed.now in
     let n = c.in-Some.next in
     let told = c.in-Some.ensures in
     let e = unmarked (feed_source f) n.place n.kind c.args.mark (grind arith) in
     record {
-      told = (subst (λ ts. NoMark c.args.mark ts c.stop-at.result) (sym told) (e, c.stop-at.ensures (feed_source f)), refl);
+      told = (subst (λ ts. NoMark c.args.mark ts c.stop_at.result) (sym told) (e, c.stop_at.ensures (feed_source f)), refl);
       source = search rules;
     }

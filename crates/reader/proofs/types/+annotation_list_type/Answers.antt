@@ -63,7 +63,7 @@ annotation-returns-in-Constant t c =
     let n = c.in-Some.next in
     record {
       kept = kept_all f c.args.arena.now;
-      tells = λ x. refused_here (next_token src n) (drop 1 (coming f)) (coming f) (typing x.slot) c.stop-at.result c.in-Some.ensures (no_type src n.place x.slot n.kind c.in-Constant.is) (c.stop-at.ensures src);
+      tells = λ x. refused_here (next_token src n) (drop 1 (coming f)) (coming f) (typing x.slot) c.stop_at.result c.in-Some.ensures (no_type src n.place x.slot n.kind c.in-Constant.is) (c.stop_at.ensures src);
     }
 
 -- past the bracket, with one level more
@@ -76,16 +76,16 @@ inner src n d ts us e k f l x =
 abbrev item_slot : (p d : ℕ) → SlotAt d → SlotAt (d + 1)
 item_slot p d x = let h = x.deep in record { slot = of_item p x.slot; deep = omega arith }
 
-pub list-type-returns-in-err-element : goal.list-type-returns-in-err-element
-list-type-returns-in-err-element t c =
+pub list_type-returns-in_err-element : goal.list_type-returns-in_err-element
+list_type-returns-in_err-element t c =
     let f = c.args.feed.now in
     let g = c.advance.new.self in
     let n = c.args.next in
     let src = feed_source f in
     let d = c.args.depth in
     let adv = c.advance.ensures in
-    let told = c.in-err-element.ensures in
-    let p = err_from_is_err_and c.from-residual.result c.from-residual.ensures.1 in
+    let told = c.in_err-element.ensures in
+    let p = err_from_is_err_and c.from_residual.result c.from_residual.ensures.1 in
     record {
       kept = kept_then (kept_taken c.args.arena.now adv.source (shorter_or_same (coming f) (coming g) adv.coming)) told.kept;
       tells = subst (TypeTells src (arena_nodes c.annotation.new.arena) d (coming f) (coming c.annotation.new.feed)) (sym (p.1 ∙ ap Err p.2))
@@ -96,8 +96,8 @@ list-type-returns-in-err-element t c =
 element_read : (src src' : List ℕ) (ns : List Node) (i p d : ℕ) (ts us : List Token) → src' ≡ src → TypeTells src' ns (d + 1) ts us (Ok i) → (x : SlotAt d) → limited 64 ts (typing (of_item p x.slot)) ≡ limited 64 us (typed (phrase src ns i).ann (of_item p x.slot))
 element_read src src' ns i p d ts us e told x = told.1 (item_slot p d x) ∙ ap (λ s. limited 64 us (typed (phrase s ns i).ann (of_item p x.slot))) e
 
-pub list-type-returns-in-err-take-mark : goal.list-type-returns-in-err-take-mark
-list-type-returns-in-err-take-mark t c =
+pub list_type-returns-in_err-take_mark : goal.list_type-returns-in_err-take_mark
+list_type-returns-in_err-take_mark t c =
     let f = c.args.feed.now in
     let g = c.advance.new.self in
     let h = c.annotation.new.feed in
@@ -105,23 +105,23 @@ list-type-returns-in-err-take-mark t c =
     let n = c.args.next in
     let src = feed_source f in
     let d = c.args.depth in
-    let i = c.in-ok-element.element in
+    let i = c.in_ok-element.element in
     let adv = c.advance.ensures in
-    let ok = c.in-ok-element.ensures in
-    let bad = c.in-err-take-mark.ensures in
-    let p = err_from_is_err_and c.from-residual-in-err-take-mark.result c.from-residual-in-err-take-mark.ensures.1 in
+    let ok = c.in_ok-element.ensures in
+    let bad = c.in_err-take_mark.ensures in
+    let p = err_from_is_err_and c.from_residual-in_err-take_mark.result c.from_residual-in_err-take_mark.ensures.1 in
     record {
       kept = kept_then (kept_taken c.args.arena.now adv.source (shorter_or_same (coming f) (coming g) adv.coming))
           (kept_then ok.kept (kept_taken c.annotation.new.arena bad.source (let l = ap length bad.told.1 in omega arith)));
-      tells = subst (TypeTells src ns d (coming f) (coming c.take-mark.new.feed)) (sym (p.1 ∙ ap Err p.2))
+      tells = subst (TypeTells src ns d (coming f) (coming c.take_mark.new.feed)) (sym (p.1 ∙ ap Err p.2))
           (λ x.
           ap judged (inner src n d (coming f) (coming g) c.requires.ahead c.requires.bracket adv.coming (omega arith) x
           ∙ element_read src (feed_source g) ns i n.place d (coming g) (coming h) adv.source ok.tells x)
-          ∙ no_item_end (phrase src ns i).ann n.place x.slot (coming h) c.in-err-take-mark.field-0.0 bad.told.0);
+          ∙ no_item_end (phrase src ns i).ann n.place x.slot (coming h) c.in_err-take_mark.field-0.0 bad.told.0);
     }
 
-pub list-type-returns : goal.list-type-returns
-list-type-returns t c =
+pub list_type-returns : goal.list_type-returns
+list_type-returns t c =
     let f = c.args.feed.now in
     let g = c.advance.new.self in
     let h = c.annotation.new.feed in
@@ -129,21 +129,21 @@ list-type-returns t c =
     let n = c.args.next in
     let src = feed_source f in
     let d = c.args.depth in
-    let i = c.in-ok-element.element in
+    let i = c.in_ok-element.element in
     let adv = c.advance.ensures in
-    let ok = c.in-ok-element.ensures in
-    let closed = c.in-ok-take-mark.ensures in
+    let ok = c.in_ok-element.ensures in
+    let closed = c.in_ok-take_mark.ensures in
     let st = c.store.ensures in
     let k = stored src ns (arena_nodes c.store.new.arena) _ c.store.result st.index st.nodes in
     record {
       kept = kept_then (kept_taken c.args.arena.now adv.source (shorter_or_same (coming f) (coming g) adv.coming))
-          (kept_then ok.kept (kept_one _ closed.source (shorter _ (coming h) (coming c.take-mark.new.feed) (coming c.take-mark.new.feed) closed.told.1 refl) st.nodes st.limit));
+          (kept_then ok.kept (kept_one _ closed.source (shorter _ (coming h) (coming c.take_mark.new.feed) (coming c.take_mark.new.feed) closed.told.1 refl) st.nodes st.limit));
       tells = (
         k.here,
         (λ x.
             inner src n d (coming f) (coming g) c.requires.ahead c.requires.bracket adv.coming (omega arith) x
             ∙ element_read src (feed_source g) ns i n.place d (coming g) (coming h) adv.source ok.tells x
             ∙ ap (λ ts. limited 64 ts (typed (phrase src ns i).ann (of_item n.place x.slot))) closed.told.1
-            ∙ ap (λ (q : Phrase). limited 64 (coming c.take-mark.new.feed) (typed q.ann x.slot)) (sym k.stands)),
+            ∙ ap (λ (q : Phrase). limited 64 (coming c.take_mark.new.feed) (typed q.ann x.slot)) (sym k.stands)),
       );
     }

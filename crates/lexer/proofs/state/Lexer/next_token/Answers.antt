@@ -14,9 +14,9 @@ returns-in-Over c =
     let x = c.args.self.now in
     record {
       given =
-          let t = c.past-gap-spot.result in (
+          let t = c.past_gap-spot.result in (
             ap (from x) (sym c.spot-start.ensures.value)
-                ∙ ap (within (free x)) (c.past-gap-spot.ensures.leads (held x.levels)
+                ∙ ap (within (free x)) (c.past_gap-spot.ensures.leads (held x.levels)
                 ∙ ap (λ (m : Mode). lex m (held x.levels) 0 t.pos (drop t.pos (bytes_of x))) c.in-Over.is
                 ∙ lex_over (held x.levels) 0 t.pos (drop t.pos (bytes_of x))),
             ap (within (free x)) (lex_over (held x.levels) 0 x.pos (drop x.pos (bytes_of x))),
