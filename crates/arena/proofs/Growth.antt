@@ -1,5 +1,5 @@
 -- How the trees of a table grow.
-use Rattle.std.proofs.Common.{◌≡◌, ℕ, zero, suc, ◌+◌, ◌<◌, Bool, true, false, ◌&&◌, ltb, List, [], ◌∷◌, ◌++◌, length, get_or, Some, None, sym, refl, ap, ◌∙◌, subst, append_assoc, add-zero, zero-add, arith, length-append}
+use Rattle.std.proofs.Common.{◌≡◌, ℕ, zero, suc, ◌+◌, ◌<◌, true, List, [], ◌∷◌, ◌++◌, length, get_or, Some, sym, refl, ap, ◌∙◌, subst, append_assoc, add-zero, zero-add, arith, length-append}
 use lib.ListN.{get_or-append}
 use Rattle.arena.specs.declared.nodes.Node.{Node}
 use Rattle.arena.specs.declared.nodes.Node.TheVariants.{Variable, Constant, Binary, Prefix, Member, Index, Call, Display, NoExpressions, MoreExpressions, ClassType, QuotedType, ListType, NoParameters, MoreParameters, Pass, BareReturn, Return, Assign, If, While, For, NoStatements, MoreStatements, NoArms, MoreArms, VariableDefinition, FunctionDefinition, ClassDefinition, Global, Nonlocal, NoDeclarations, MoreDeclarations}

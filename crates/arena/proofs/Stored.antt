@@ -1,5 +1,5 @@
 -- One node more in a table, and the node at an index.
-use Rattle.std.proofs.Common.{◌≡◌, ℕ, zero, suc, ◌+◌, ◌<◌, ◌≤◌, Bool, true, false, ◌&&◌, List, [], ◌∷◌, ◌++◌, length, get_or, Some, None, sym, refl, ap, ◌∙◌, subst, add-zero, arith}
+use Rattle.std.proofs.Common.{◌≡◌, ℕ, zero, suc, ◌+◌, ◌<◌, ◌≤◌, true, List, [], ◌∷◌, ◌++◌, length, get_or, Some, None, sym, refl, ap, subst, add-zero, arith}
 use Rattle.arena.specs.declared.nodes.Node.{Node}
 use Rattle.arena.specs.Order.{before, ordered}
 use Rattle.arena.specs.Tables.{node_at}

@@ -1,5 +1,5 @@
 -- Children stand before their parents.
-use Rattle.std.specs.Prelude.{ℕ, ◌+◌, Bool, true, false, ◌&&◌, List, [], ◌∷◌, nat_lt}
+use Rattle.std.specs.Prelude.{ℕ, ◌+◌, Bool, true, ◌&&◌, List, [], ◌∷◌, nat_lt}
 use Rattle.arena.specs.declared.nodes.Node.{Node}
 use Rattle.arena.specs.declared.nodes.Node.TheVariants.{Variable, Constant, Binary, Prefix, Member, Index, Call, Display, NoExpressions, MoreExpressions, ClassType, QuotedType, ListType, NoParameters, MoreParameters, Pass, BareReturn, Return, Assign, If, While, For, NoStatements, MoreStatements, NoArms, MoreArms, VariableDefinition, FunctionDefinition, ClassDefinition, Global, Nonlocal, NoDeclarations, MoreDeclarations}
 

@@ -1,5 +1,5 @@
 -- What a table of nodes holds, and what storing one more answers and leaves.
-use Rattle.std.specs.Prelude.{ℕ, zero, suc, Bool, true, false, cond, List, [], ◌∷◌, ◌++◌, length, Some, None, Ok, Err, vec_items, Option, Result, nat_lt}
+use Rattle.std.specs.Prelude.{ℕ, zero, suc, cond, List, [], ◌∷◌, ◌++◌, length, Some, None, Ok, Err, vec_items, Option, Result, nat_lt}
 use Rattle.arena.specs.declared.arenas.Arena.{Arena}
 use Rattle.arena.specs.declared.growing.ArenaError.{ArenaError}
 use Rattle.arena.specs.declared.growing.ArenaError.TheVariants.{Full, LaterChild}

@@ -1,4 +1,6 @@
 // What a byte of the source can begin, from a table.
+#![tactic(auto)]
+
 ghost use Rattle.std.specs.Prelude.{◌≡◌, slice_index_or};
 ghost use Rattle.byte_class.specs.Table.{classes};
 ghost use Rattle.lexis.specs.Bytes.{class_of};

@@ -1,9 +1,8 @@
 -- Copying line by line, and that nothing is lost or doubled.
-use Rattle.std.proofs.Common.{◌≡◌, ℕ, zero, suc, ◌+◌, ◌-◌, ◌^◌, ◌<◌, ◌≤◌, Bool, true, false, cond, ltb, List, [], ◌∷◌, ◌++◌, length, Ok, Err, Result, sym, refl, ap, ◌∙◌, subst, append_assoc, arith, length-append, ltb-false, ltb-true}
+use Rattle.std.proofs.Common.{◌≡◌, ℕ, zero, suc, ◌+◌, ◌^◌, ◌<◌, ◌≤◌, Bool, true, false, cond, ltb, List, [], ◌∷◌, ◌++◌, length, Ok, Err, sym, refl, ap, ◌∙◌, subst, append_assoc, arith, length-append, ltb-false, ltb-true}
 use Rattle.std.proofs.lemmas.List.{append-nil}
 use Rattle.host.specs.Meaning.{Meaning}
 use Rattle.host.specs.Calls.{all_fed, fed, with_line, without_first}
-use Rattle.copying.specs.declared.answers.Copied.{Copied}
 use Rattle.copying.specs.declared.answers.Ending.{Ending}
 use Rattle.copying.specs.declared.answers.Ending.TheVariants.{AllCopied, NoSpare}
 use Rattle.copying.specs.Copies.{All, Moved, copied, copied_from, ends, one_of}

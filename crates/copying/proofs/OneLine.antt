@@ -1,5 +1,5 @@
 -- Why a line that passed the tests went over as `copied_one` says.
-use Rattle.std.proofs.Common.{◌≡◌, ℕ, ◌+◌, ◌-◌, ◌<◌, ◌≤◌, Bool, true, false, cond, ltb, List, [], ◌∷◌, ◌++◌, length, take, drop, Some, None, Ok, Err, Option, Result, refl, arith}
+use Rattle.std.proofs.Common.{◌≡◌, ℕ, List, [], ◌∷◌, length, take, drop, Some, Ok, refl, arith}
 use Rattle.std.proofs.lemmas.List.{take_at}
 use Rattle.host.specs.Meaning.{Meaning, Bounded}
 use Rattle.host.specs.Calls.{first_length, taken_line, put_line}

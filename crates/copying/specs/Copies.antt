@@ -1,5 +1,5 @@
 -- What copying lines from one host to another answers, and what it leaves of the two.
-use Rattle.std.specs.Prelude.{◌≡◌, ℕ, ◌+◌, ◌-◌, ◌<◌, Bool, true, false, cond, List, [], ◌∷◌, ◌++◌, length, Ok, Err, Result, nat_lt}
+use Rattle.std.specs.Prelude.{◌≡◌, ℕ, ◌+◌, ◌<◌, cond, List, [], ◌∷◌, ◌++◌, length, Ok, Err, Result, nat_lt}
 use Rattle.host.specs.Meaning.{Meaning}
 use Rattle.host.specs.Calls.{all_fed, with_line, without_first}
 use Rattle.copying.specs.declared.answers.Copied.{Copied}

@@ -1,4 +1,6 @@
 // Reading by functions that call each other, as code does it: the same reading as the limited reader's, whatever is open around.
+#![tactic(auto)]
+
 ghost use Rattle.descent.specs.Theorems.{DescendsExpr, DescendsAfter, DescendsItems, DescendsList, DescendsType, DescendsParams, DescendsVar, DescendsBody, DescendsFunc, DescendsMembers, DescendsClass};
 ghost use Rattle.descent.specs.Theorems.{DescendsLine, DescendsStmt, DescendsIf, DescendsMore, DescendsLines, DescendsBlock, DescendsCommand, DescendsReturn, DescendsHeadline, DescendsLead, DescendsProgram, DescendsWhole};
 ghost use Rattle.descent.specs.Calls.{Enough};

@@ -1,5 +1,5 @@
 -- The tokens with which a text can end: its end, or one that no rule takes.
-use Rattle.std.specs.Prelude.{◌≡◌, ℕ, Bool, true, false, T, List, [], ◌∷◌, ◌++◌, ◌≢◌}
+use Rattle.std.specs.Prelude.{ℕ, Bool, true, false, T, List, [], ◌∷◌, ◌++◌, ◌≢◌}
 use Rattle.grammar.specs.Tree.{Token, mark_discrete, name, lit, dot, lparen, lbracket, not_word, op, mark, wrong, at, end, unused}
 use Rattle.grammar.specs.Reader.{begin}
 use Rattle.grammar.specs.Limits.{limited, unfinished}

@@ -1,5 +1,4 @@
 -- Tokens and trees. A node keeps the place of its first token.
-use mathlib.Core.HLevel.{Discrete}
 use Rattle.std.specs.Prelude.{ℕ, suc, Bool, true, false, List}
 
 -- the bytes of a name or of a string's value

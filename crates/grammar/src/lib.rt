@@ -1,4 +1,6 @@
 // The theory of reading: what is proved of the readers that specs/Reader.antt and specs/Limits.antt define.
+#![tactic(auto)]
+
 ghost use Rattle.grammar.specs.Theorems.{Sound, Complete, Unique, First, Short, Exact};
 ghost use Rattle.grammar.specs.Exactly.{Profiled, AcceptedExactly, SixExactly, SevenExactly, EightExactly, UnfinishedExactly};
 ghost use Rattle.grammar.specs.Last.{Foreign, Decided};

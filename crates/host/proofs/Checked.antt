@@ -1,5 +1,5 @@
 -- The three answers of a check.
-use Rattle.std.proofs.Common.{◌≡◌, ℕ, List, Some, None, Ok, Err, Option, Result, sym, refl, subst, arith}
+use Rattle.std.proofs.Common.{◌≡◌, ℕ, List, Some, None, Ok, Err, Option, sym, refl, subst, arith}
 use Rattle.host.specs.declared.checks.CheckError.{CheckError}
 use Rattle.host.specs.declared.checks.CheckError.TheVariants.{Flawed, NoMemory}
 use Rattle.host.specs.Checks.{Checks}

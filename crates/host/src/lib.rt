@@ -1,4 +1,6 @@
 // Hosts: what a routine takes its lines from and prints its lines to, and the layers over them.
+#![tactic(auto)]
+
 pub mod admission;
 pub mod checks;
 pub mod choices;

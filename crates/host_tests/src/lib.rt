@@ -1,3 +1,5 @@
+#![tactic(auto)]
+
 // Cases of numerals, hosts and layers, worked out from the rules.
 #[cfg(test)]
 mod hosts;

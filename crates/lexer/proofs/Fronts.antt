@@ -1,5 +1,5 @@
 -- The parts of a word.
-use Rattle.std.proofs.Common.{◌≡◌, ℕ, ◌-◌, List, take, Option, sym, ap, ◌∙◌}
+use Rattle.std.proofs.Common.{◌≡◌, ℕ, ◌-◌, List, take, Option, ap, ◌∙◌}
 use native.Mathlib.Nat.{sub-zero}
 use Rattle.std.specs.List.{prefix_len}
 use Rattle.lexis.specs.Tokens.{Tok}

@@ -1,13 +1,12 @@
 -- Tokens where only so many levels can be open.
-use Rattle.std.proofs.Common.{◌≡◌, ℕ, zero, suc, ◌+◌, ◌-◌, ◌<◌, ◌≤◌, Bool, true, false, cond, eqb, ltb, List, [], ◌∷◌, ◌++◌, length, get_or, take, Some, None, Option, sym, refl, ap, ◌∙◌, arith, length-take}
+use Rattle.std.proofs.Common.{◌≡◌, ℕ, zero, suc, ◌+◌, ◌-◌, ◌<◌, ◌≤◌, Bool, true, false, cond, List, [], ◌∷◌, ◌++◌, length, get_or, take, Some, None, Option, refl, ap, ◌∙◌, arith, length-take}
 use Rattle.std.proofs.lemmas.List.{length-reverse}
-use Rattle.std.proofs.lemmas.Bool.{true≢false, cond-true, cond-false, eq-eqb, ne_eqb, ltb-true, ltb-false}
+use Rattle.std.proofs.lemmas.Bool.{true≢false, cond-true, cond-false, eq-eqb, ne_eqb}
 use Rattle.stack.specs.Held.{held, room}
 use Rattle.stack.specs.declared.Stack.{Stack}
 use Rattle.lexis.specs.Bytes.{class_of}
-use Rattle.lexis.specs.Lines.{Move, before, halt, in_line, choose, level_of, settle, begun, is_fault, fresh_by, inside_by, move, closing, ending, lex, tokens}
-use Rattle.lexis.specs.Numbers.{number_of}
-use Rattle.lexis.specs.Scans.{scan_of, scan_by, named, numbered, texted, marked, word_at, number_at, text_at, mark_at}
+use Rattle.lexis.specs.Lines.{Move, in_line, choose, level_of, settle, is_fault, fresh_by, inside_by, move, closing, ending, lex, tokens}
+use Rattle.lexis.specs.Scans.{scan_of, scan_by, named, numbered, texted, marked}
 use Rattle.lexis.specs.Tokens.{Tok}
 use Rattle.lexis.specs.declared.bytes.Class.{Class}
 use Rattle.lexis.specs.declared.bytes.Class.TheVariants.{Blank, LineEnd, Hash, Letter, Digit, Quote, Mark, Other}
@@ -16,7 +15,7 @@ use Rattle.lexis.specs.declared.lines.Level.{Level}
 use Rattle.lexis.specs.declared.lines.Mode.{Mode}
 use Rattle.lexis.specs.declared.tokens.Keyword.{Keyword}
 use Rattle.lexis.specs.declared.tokens.Symbol.{Symbol}
-use Rattle.lexer.specs.Room.{within, too_deep, free_after, Enough}
+use Rattle.lexer.specs.Room.{within, free_after, Enough}
 
 -- INDENT and DEDENT
 abbrev pub is_level : Tok → Bool

@@ -1,5 +1,5 @@
 -- What is scanned at a place stands there.
-use Rattle.std.proofs.Common.{◌≡◌, ℕ, zero, suc, ◌+◌, ◌-◌, List, [], ◌∷◌, length, get_or, take, drop, Some, None, Option, sym, refl, ap, ◌∙◌, subst}
+use Rattle.std.proofs.Common.{◌≡◌, ℕ, zero, suc, ◌-◌, List, [], ◌∷◌, length, get_or, take, drop, Some, None, Option, sym, refl, ap, subst}
 use Rattle.std.proofs.lemmas.List.{drop-drop}
 use Rattle.lexis.specs.Scans.{named, numbered, scan_by, scan_of, texted, marked}
 use Rattle.lexis.specs.Bytes.{class_of}

@@ -1,5 +1,5 @@
 -- What is left of some tokens where only so many levels can be open: an INDENT past them becomes a fault of indentation, and the last token.
-use Rattle.std.specs.Prelude.{◌≡◌, ℕ, ◌+◌, ◌-◌, ◌≤◌, Bool, true, false, cond, List, [], ◌∷◌, length, ◌==◌}
+use Rattle.std.specs.Prelude.{◌≡◌, ℕ, ◌+◌, ◌-◌, ◌≤◌, Bool, false, cond, List, [], ◌∷◌, length, ◌==◌}
 use Rattle.lexis.specs.Lines.{tokens}
 use Rattle.lexis.specs.Tokens.{Tok}
 use Rattle.lexis.specs.declared.faults.Fault.{Fault}

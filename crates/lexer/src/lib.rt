@@ -1,4 +1,6 @@
 // The lexer: from the bytes of a source to its tokens.
+#![tactic(auto)]
+
 mod gap;
 mod levels;
 mod numbers;

@@ -1,8 +1,8 @@
 -- A byte gives at most three tokens, counting the DEDENTs that it leads to.
-use Rattle.std.proofs.Common.{◌≡◌, ℕ, zero, suc, ◌+◌, ◌*◌, ◌≤◌, Bool, true, false, cond, List, [], ◌∷◌, ◌++◌, length, get_or, refl, ap, ◌∙◌, arith, length-append}
+use Rattle.std.proofs.Common.{ℕ, zero, suc, ◌+◌, ◌*◌, ◌≤◌, Bool, true, false, cond, List, [], ◌∷◌, length, get_or, arith, length-append}
 use Rattle.lexis.specs.Bytes.{class_of}
 use Rattle.lexis.specs.Count.{TokensFew}
-use Rattle.lexis.specs.Lines.{Move, begun, choose, closing, ending, fresh_by, in_line, inside_by, is_fault, level_of, lex, move, settle}
+use Rattle.lexis.specs.Lines.{Move, choose, closing, ending, fresh_by, in_line, inside_by, level_of, lex, move, settle}
 use Rattle.lexis.specs.Tokens.{Tok}
 use Rattle.lexis.specs.declared.bytes.Class.{Class}
 use Rattle.lexis.specs.declared.bytes.Class.TheVariants.{Blank, LineEnd, Hash, Letter, Digit, Quote, Mark, Other}

@@ -1,5 +1,5 @@
 -- Tokens of small sources, computed.
-use Rattle.std.proofs.Common.{◌≡◌, ℕ, List, [], ◌∷◌, ◌++◌, codes, refl}
+use Rattle.std.proofs.Common.{◌≡◌, [], ◌∷◌, ◌++◌, codes, refl}
 use Rattle.lexis.specs.Lines.{tokens, lex}
 use Rattle.lexis.specs.Texts.{string_value, value_from}
 use Rattle.lexis.specs.Tokens.{Tok}

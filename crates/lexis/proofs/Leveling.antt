@@ -1,25 +1,24 @@
 -- Lines and levels: what the rules of the automaton keep of them.
-use Rattle.std.proofs.Common.{◌≡◌, ℕ, zero, suc, ◌+◌, ◌-◌, ◌<◌, ◌≤◌, Bool, true, false, cond, not, ◌||◌, eqb, ltb, List, [], ◌∷◌, ◌++◌, length, get_or, take, drop, Some, None, Option, sym, refl, ap, ◌∙◌, subst, add-zero, arith, length-drop}
+use Rattle.std.proofs.Common.{◌≡◌, ℕ, suc, ◌+◌, ◌<◌, Bool, true, false, cond, not, ◌||◌, eqb, ltb, List, [], ◌∷◌, length, get_or, drop, Some, None, Option, sym, refl, ap, ◌∙◌, subst, arith, length-drop}
 use Rattle.std.specs.List.{prefix_len}
 use Rattle.std.proofs.lemmas.List.{get_or-drop}
 use Rattle.std.proofs.lemmas.List.Sums.{fold_more}
 use Rattle.std.proofs.lemmas.Bool.{true≢false, cond-true, cond-false, ltb-true, ltb-false, eqb-true, eqb-false, ne_eqb, not-false}
 use Rattle.lexis.specs.Bytes.{class_of, among}
-use Rattle.lexis.specs.Levels.{advanced, column, Misfits, Settles, Leveled}
+use Rattle.lexis.specs.Levels.{advanced, column, Settles, Leveled}
 use Rattle.lexis.specs.Lines.{is_fault, is_open, top_level, level_of, widened, tokens}
 use Rattle.lexis.specs.Runs.{in_run, ends_line, starts}
-use Rattle.lexis.specs.Scans.{scan_of, scan_by, named, numbered, texted, marked}
+use Rattle.lexis.specs.Scans.{scan_by, named, numbered, texted, marked}
 use Rattle.lexis.specs.Tokens.{Tok}
 use Rattle.lexis.specs.Written.{has_bytes}
 use Rattle.lexis.specs.declared.bytes.Class.{Class}
 use Rattle.lexis.specs.declared.bytes.Class.TheVariants.{Blank, LineEnd, Hash, Letter, Digit, Quote, Mark, Other}
-use Rattle.lexis.specs.declared.faults.Fault.{Fault}
 use Rattle.lexis.specs.declared.lines.Level.{Level}
 use Rattle.lexis.specs.declared.lines.Mode.{Mode}
 use Rattle.lexis.specs.declared.scans.Run.{Run}
 use Rattle.lexis.specs.declared.tokens.Keyword.{Keyword}
 use Rattle.lexis.specs.declared.tokens.Symbol.{Symbol}
-use Rattle.lexis.proofs.Rules.{Kept, kept_all, byte_at, class_at, token_at, size_at, comment_at}
+use Rattle.lexis.proofs.Rules.{Kept, kept_all, byte_at, class_at, token_at, comment_at}
 use Rattle.lexis.proofs.Spelling.{scan_bytes}
 
 -- a run stops at its end

@@ -1,16 +1,16 @@
 -- A scanned token is the longest one at its place.
-use Rattle.std.proofs.Common.{◌≡◌, ℕ, zero, suc, ◌+◌, ◌-◌, ◌<◌, ◌≤◌, Bool, true, false, cond, ◌&&◌, List, [], ◌∷◌, ◌++◌, length, get_or, take, drop, Some, None, fold, Option, sym, refl, ap, ◌∙◌, subst, ⊎_elim, add-zero, arith, length-take}
+use Rattle.std.proofs.Common.{◌≡◌, ℕ, zero, suc, ◌+◌, ◌<◌, ◌≤◌, Bool, true, false, cond, List, [], ◌∷◌, ◌++◌, length, get_or, take, drop, Some, None, fold, Option, sym, refl, ap, ◌∙◌, ⊎_elim, add-zero, arith}
 use Rattle.std.specs.List.{prefix_len}
 use Rattle.std.proofs.lemmas.List.{take-append-drop, append_assoc, length-append, length-take-le, nil_from_length}
 use Rattle.std.proofs.lemmas.Bool.{true≢false, and_parts, cases_lt}
 use Rattle.lexis.specs.Bytes.{class_of}
 use Rattle.lexis.specs.Numbers.{number_of}
-use Rattle.lexis.specs.Runs.{in_run, in_word, is_numeral}
+use Rattle.lexis.specs.Runs.{in_run, is_numeral}
 use Rattle.lexis.specs.Scans.{scan_of, scan_by, named, numbered, texted, marked}
 use Rattle.lexis.specs.Texts.{text_step, text_end, ends, is_inside, is_text}
 use Rattle.lexis.specs.Tokens.{Tok}
-use Rattle.lexis.specs.Words.{beside, doubles, singles, either, symbol_of, symbol_bytes, spelled, keyword_of}
-use Rattle.lexis.specs.Written.{every, Writes, has_bytes, Longest, Blames, Best, fault_class}
+use Rattle.lexis.specs.Words.{beside, doubles, singles, either, symbol_bytes, spelled}
+use Rattle.lexis.specs.Written.{every, Writes, has_bytes, Longest, Best, fault_class}
 use Rattle.lexis.specs.declared.bytes.Class.{Class}
 use Rattle.lexis.specs.declared.bytes.Class.TheVariants.{Blank, LineEnd, Hash, Letter, Digit, Quote, Mark, Other}
 use Rattle.lexis.specs.declared.faults.Fault.{Fault}

@@ -1,24 +1,23 @@
 -- The laws leave no other tokens.
-use Rattle.std.proofs.Common.{◌≡◌, ℕ, zero, suc, ◌+◌, ◌-◌, ◌<◌, ◌≤◌, Bool, true, false, cond, ◌||◌, eqb, ltb, ◌⊎◌, List, [], ◌∷◌, ◌++◌, length, get_or, take, drop, sym, refl, ap, ◌∙◌, subst, inl, inr, ⊎_elim, add-zero, arith, length-drop}
+use Rattle.std.proofs.Common.{◌≡◌, ℕ, ◌+◌, ◌<◌, ◌≤◌, Bool, true, false, eqb, ltb, ◌⊎◌, List, [], ◌∷◌, length, get_or, take, drop, sym, refl, ap, ◌∙◌, subst, inl, inr, ⊎_elim, arith, length-drop}
 use Rattle.std.specs.List.{prefix_len}
 use Rattle.std.proofs.lemmas.List.{length-take-le, get_or_past}
 use Rattle.std.proofs.lemmas.Bool.{true≢false, ltb-true, eqb-true, or_cases, or_left, or_right}
 use Rattle.lexis.specs.Bytes.{class_of, among}
 use Rattle.lexis.specs.Laws.{TokensOnly}
-use Rattle.lexis.specs.Levels.{column, Misfits, Settles, Leveled}
-use Rattle.lexis.specs.Lines.{is_fault, is_open, top_level, level_of, tokens}
-use Rattle.lexis.specs.Reading.{Gap, Lies, first_place, fault_next, begins_line, Follows, Reads}
+use Rattle.lexis.specs.Levels.{column, Settles, Leveled}
+use Rattle.lexis.specs.Lines.{is_fault, is_open, top_level}
+use Rattle.lexis.specs.Reading.{Gap, first_place, fault_next, begins_line, Follows, Reads}
 use Rattle.lexis.specs.Runs.{in_run, ends_line, starts}
 use Rattle.lexis.specs.Tokens.{Tok}
-use Rattle.lexis.specs.Written.{Writes, has_bytes, Whole, There, Blames, Best, fault_class}
+use Rattle.lexis.specs.Written.{has_bytes, There}
 use Rattle.lexis.specs.declared.bytes.Class.{Class}
 use Rattle.lexis.specs.declared.bytes.Class.TheVariants.{Blank, LineEnd, Hash, Letter, Digit, Quote, Mark, Other}
 use Rattle.lexis.specs.declared.faults.Fault.{Fault}
-use Rattle.lexis.specs.declared.lines.Level.{Level}
 use Rattle.lexis.specs.declared.lines.Mode.{Mode}
 use Rattle.lexis.specs.declared.scans.Run.{Run}
 use Rattle.lexis.proofs.Leveling.{Clear, at_start, after_blank, after_end, after_remark, picks_same, picks_deeper, picks_shallower, picks_open, picks_nowhere, below}
-use Rattle.lexis.proofs.Longest.{code, kind, kind_some}
+use Rattle.lexis.proofs.Longest.{code, kind_some}
 use Rattle.lexis.proofs.Rules.{Kept, kept_all, byte_at, class_at, token_at, size_at, comment_at}
 use Rattle.lexis.proofs.Whole.{best_whole, scan_there, same_there, there_kind, blamed, scan_fault, fault_alone}
 

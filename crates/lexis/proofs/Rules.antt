@@ -5,7 +5,7 @@ use Rattle.std.proofs.lemmas.List.{drop_more, get_or-drop}
 use Rattle.std.proofs.lemmas.List.Sums.{prefix_len-le-length, prefix_len-drop_yes}
 use Rattle.std.proofs.lemmas.Bool.{cond-true, cond-false, lt-ltb}
 use Rattle.lexis.specs.Bytes.{class_of}
-use Rattle.lexis.specs.Lines.{Move, in_line, choose, settle, begun, level_of, is_fault, after, widened, comment, fresh_by, inside_by, move, closing, ending, lex, tokens}
+use Rattle.lexis.specs.Lines.{Move, in_line, choose, settle, level_of, is_fault, after, widened, fresh_by, inside_by, move, closing, ending, lex, tokens}
 use Rattle.lexis.specs.Runs.{in_run, ends_line, starts}
 use Rattle.lexis.specs.Scans.{scan_of}
 use Rattle.lexis.specs.Tokens.{Tok}

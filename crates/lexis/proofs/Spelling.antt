@@ -1,5 +1,5 @@
 -- The bytes of a scanned token are that token's.
-use Rattle.std.proofs.Common.{◌≡◌, ℕ, zero, suc, ◌+◌, ◌-◌, ◌<◌, ◌≤◌, Bool, true, false, cond, ◌&&◌, eqb, ltb, leb, List, [], ◌∷◌, ◌++◌, length, get_or, take, drop, is_some, Some, None, fold, Option, sym, refl, ap, ◌∙◌, subst, arith}
+use Rattle.std.proofs.Common.{◌≡◌, ℕ, suc, ◌+◌, ◌-◌, ◌<◌, ◌≤◌, Bool, true, false, cond, ◌&&◌, eqb, ltb, leb, List, [], ◌∷◌, ◌++◌, length, get_or, take, is_some, Some, None, fold, Option, sym, refl, ap, ◌∙◌, subst, arith}
 use Rattle.std.specs.List.{prefix_len}
 use Rattle.std.specs.Str.{bytes_eq}
 use Rattle.std.proofs.lemmas.List.{get_or-take, take_more}
@@ -9,8 +9,7 @@ use Rattle.lexis.specs.Lines.{is_fault}
 use Rattle.lexis.specs.Numbers.{number_of}
 use Rattle.lexis.specs.Runs.{in_run}
 use Rattle.lexis.specs.Scans.{scan_of, scan_by, named, numbered, texted, marked}
-use Rattle.lexis.specs.Texts.{escape_of, longer_by, text_step, text_end, ends, is_inside, is_text}
-use Rattle.lexis.specs.Tokens.{Tok}
+use Rattle.lexis.specs.Texts.{escape_of, text_step, text_end, ends, is_inside}
 use Rattle.lexis.specs.Words.{beside, doubles, singles, either, symbol_of, symbol_bytes, spelled, keywords, keyword_of, first_spelled}
 use Rattle.lexis.specs.Written.{every, Writes, has_bytes}
 use Rattle.lexis.specs.declared.bytes.Class.{Class}

@@ -1,11 +1,11 @@
 -- The laws of tokens, each as what the rules of the automaton keep.
-use Rattle.std.proofs.Common.{◌≡◌, ℕ, zero, suc, ◌+◌, ◌-◌, ◌<◌, ◌≤◌, Bool, true, false, cond, eqb, ltb, List, [], ◌∷◌, ◌++◌, length, get_or, take, drop, sym, refl, ap, ◌∙◌, subst, add-zero, arith, length-drop}
+use Rattle.std.proofs.Common.{◌≡◌, ℕ, ◌+◌, ◌<◌, ◌≤◌, Bool, true, false, cond, eqb, ltb, List, [], ◌∷◌, length, get_or, take, drop, sym, refl, ap, ◌∙◌, subst, add-zero, arith, length-drop}
 use Rattle.std.proofs.lemmas.Bool.{true≢false}
 use Rattle.lexis.specs.Balance.{Opens, Balanced}
 use Rattle.lexis.specs.Bytes.{class_of}
-use Rattle.lexis.specs.Laws.{Lawful, TokensStand}
+use Rattle.lexis.specs.Laws.{TokensStand}
 use Rattle.lexis.specs.Lines.{is_fault, is_open, top_level, tokens}
-use Rattle.lexis.specs.Reading.{Gap, Lies, first_place, fault_next, begins_line, Follows, Reads, Ascends}
+use Rattle.lexis.specs.Reading.{Gap, Lies, first_place, fault_next, begins_line, Reads, Ascends}
 use Rattle.lexis.specs.Runs.{starts}
 use Rattle.lexis.specs.Scans.{scan_of}
 use Rattle.lexis.specs.Tokens.{Tok}

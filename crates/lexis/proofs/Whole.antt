@@ -1,15 +1,14 @@
 -- The bytes of a token are scanned as that token, and where one stands there is no fault.
-use Rattle.std.proofs.Common.{◌≡◌, ℕ, zero, suc, ◌+◌, ◌-◌, ◌<◌, ◌≤◌, Bool, true, false, cond, ◌&&◌, List, [], ◌∷◌, ◌++◌, length, get_or, take, drop, Some, None, Option, sym, refl, ap, ◌∙◌, subst, ⊎_elim, arith}
+use Rattle.std.proofs.Common.{◌≡◌, ℕ, suc, ◌+◌, ◌-◌, ◌<◌, ◌≤◌, Bool, true, false, List, [], ◌∷◌, ◌++◌, length, get_or, take, Some, None, Option, sym, refl, ap, ◌∙◌, subst, ⊎_elim, arith}
 use Rattle.std.specs.List.{prefix_len}
 use Rattle.std.proofs.lemmas.List.{take_all, take_at, length-take-le}
-use Rattle.std.proofs.lemmas.List.Sums.{prefix_len-le-length}
 use Rattle.std.proofs.lemmas.Bool.{true≢false, and_parts, cases_order}
 use Rattle.lexis.specs.Bytes.{class_of}
 use Rattle.lexis.specs.Lines.{is_fault}
 use Rattle.lexis.specs.Numbers.{number_of}
 use Rattle.lexis.specs.Runs.{in_run, is_numeral}
 use Rattle.lexis.specs.Scans.{scan_of, scan_by, named, numbered, texted, marked}
-use Rattle.lexis.specs.Texts.{text_end, is_text}
+use Rattle.lexis.specs.Texts.{is_text}
 use Rattle.lexis.specs.Tokens.{Tok}
 use Rattle.lexis.specs.Words.{keyword_of, spelled, symbol_bytes}
 use Rattle.lexis.specs.Written.{every, Writes, has_bytes, Longest, Whole, There, Blames, Best, fault_class}

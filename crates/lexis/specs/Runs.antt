@@ -1,6 +1,6 @@
 -- Which bytes go on with a word, a number or a comment.
-use Rattle.std.specs.Prelude.{ℕ, Bool, true, false, not, ◌||◌}
-use Rattle.lexis.specs.Bytes.{is_letter, is_digit, is_line_end, class_of}
+use Rattle.std.specs.Prelude.{ℕ, Bool, true, false, not}
+use Rattle.lexis.specs.Bytes.{class_of}
 use Rattle.lexis.specs.declared.bytes.Class.{Class}
 use Rattle.lexis.specs.declared.bytes.Class.TheVariants.{Blank, LineEnd, Hash, Letter, Digit, Quote, Mark, Other}
 use Rattle.lexis.specs.declared.scans.Run.{Run}

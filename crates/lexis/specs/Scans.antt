@@ -1,5 +1,5 @@
 -- The token at the front of some bytes, and how many of them it takes: the longest one.
-use Rattle.std.specs.Prelude.{ℕ, ◌+◌, ◌-◌, List, [], ◌∷◌, take, drop, Some, None, Option, slice_index, slice_range}
+use Rattle.std.specs.Prelude.{ℕ, ◌+◌, List, take, drop, Some, None, Option, slice_index, slice_range}
 use Rattle.std.specs.List.{prefix_len}
 use Rattle.lexis.specs.Bytes.{class_of}
 use Rattle.lexis.specs.declared.bytes.Class.{Class}

@@ -1,5 +1,5 @@
 -- The keywords, and the operators by longest match.
-use Rattle.std.specs.Prelude.{ℕ, Bool, true, false, cond, ◌&&◌, eqb, List, [], ◌∷◌, Some, None, codes, Option}
+use Rattle.std.specs.Prelude.{ℕ, cond, List, [], ◌∷◌, Some, None, codes, Option}
 use Rattle.std.specs.Str.{bytes_eq}
 use Rattle.lexis.specs.declared.tokens.Keyword.{Keyword}
 use Rattle.lexis.specs.declared.tokens.Symbol.{Symbol}

@@ -1,2 +1,4 @@
 // Numbers written into a print buffer.
+#![tactic(auto)]
+
 pub mod appending;

@@ -1,5 +1,5 @@
 -- The decimal numeral of a number, and what writing it into a place answers and leaves.
-use Rattle.std.specs.Prelude.{◌≡◌, ℕ, zero, suc, ◌+◌, ◌/◌, ◌%◌, ◌^◌, ◌<◌, Bool, true, false, cond, List, [], ◌∷◌, ◌++◌, length, drop, Ok, Err, decimal, Result, nat_lt}
+use Rattle.std.specs.Prelude.{◌≡◌, ℕ, zero, suc, ◌+◌, ◌/◌, ◌%◌, ◌^◌, ◌<◌, cond, List, [], ◌∷◌, ◌++◌, length, drop, Ok, Err, decimal, Result, nat_lt}
 use Rattle.numeral.specs.declared.errors.NumeralError.{NumeralError}
 use Rattle.numeral.specs.declared.errors.NumeralError.TheVariants.{OverBound, PlaceTooShort}
 

@@ -1,5 +1,5 @@
 -- What a print buffer holds, and what appending to it answers and leaves.
-use Rattle.std.specs.Prelude.{ℕ, ◌+◌, ◌-◌, Bool, true, false, cond, List, [], ◌∷◌, ◌++◌, length, Ok, Err, vec_items, Result, nat_lt}
+use Rattle.std.specs.Prelude.{ℕ, ◌+◌, ◌-◌, cond, List, ◌++◌, length, Ok, Err, vec_items, Result, nat_lt}
 use Rattle.print_buffer.specs.declared.appending.NoRoom.{NoRoom}
 use Rattle.print_buffer.specs.declared.buffers.PrintBuffer.{PrintBuffer}
 

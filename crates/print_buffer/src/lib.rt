@@ -1,3 +1,5 @@
 // A print buffer of fixed room.
+#![tactic(auto)]
+
 pub mod appending;
 pub mod buffers;

@@ -1,4 +1,6 @@
 // A stack over slots that the caller lends. It stands for a list, its top first.
+#![tactic(auto)]
+
 ghost use Rattle.std.specs.Prelude.{◌≡◌, ℕ, ◌+◌, ◌-◌, ◌<◌, ◌≤◌, true, false, List, [], ◌∷◌, ◌++◌, reverse, length, take, if◌then◌else◌, nat_lt, slice_index_or, slice_set};
 ghost use Rattle.std.specs.Option.{option_to_list};
 ghost use Rattle.stack.specs.Held.{held, room, filled, top_of};

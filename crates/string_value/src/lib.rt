@@ -1,4 +1,6 @@
 // The value of a string: the bytes between its quotes, with its escapes applied.
+#![tactic(auto)]
+
 ghost use Rattle.std.specs.Prelude.{◌≡◌};
 ghost use Rattle.lexis.specs.Texts.{escape_of, unescaped, string_value};
 ghost use Rattle.string_value.specs.Left.{value_left, Takes};

@@ -1,16 +1,15 @@
 -- The verdict on a source is the verdict on its tokens, unless it is too long.
 use mathlib.Core.Bool.{Bool, true, false, cond}
 use mathlib.Core.List.{List, [], ◌∷◌, ◌++◌, map}
-use mathlib.Core.Logic.{◌⊎◌, inl, inr}
-use mathlib.Core.Path.{◌≡◌, refl, sym, ap, ◌∙◌, subst}
+use mathlib.Core.Logic.{inl, inr}
+use mathlib.Core.Path.{◌≡◌, refl, sym, ap, ◌∙◌}
 use Prim.Native.Nat.{ℕ, ◌+◌, ◌-◌, ◌≤◌, ◌<◌}
 use native.Mathlib.Omega.{arith}
 use borrow.Author.Tests.{ltb-true, ltb-false}
 use lib.Dec.{T, ltb}
 use lib.ListN.{length}
-use Rattle.grammar.specs.Tree.{Decls, Stmts, Token, place}
-use Rattle.grammar.specs.Theorems.{Iff}
-use Rattle.grammar.specs.Verdict.{Verdict, Why, accepted, incomplete, reads, refused}
+use Rattle.grammar.specs.Tree.{Decls, Stmts, Token}
+use Rattle.grammar.specs.Verdict.{accepted, incomplete, reads, refused}
 use Rattle.grammar.proofs.Refused.{unique}
 use Rattle.grammar.proofs.Verdict.{accepts, judges, refuses}
 use Rattle.grammar.specs.Last.{last}

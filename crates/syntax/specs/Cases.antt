@@ -1,5 +1,5 @@
 -- Worked cases of reading: a source, and the number and place of its refusal, or 0 and 0 where it reads.
-use Rattle.std.specs.Prelude.{List, [], ◌∷◌, ◌++◌, map, ◌≡◌, ℕ, codes, replicate}
+use Rattle.std.specs.Prelude.{List, [], ◌∷◌, ◌++◌, ◌≡◌, ℕ, codes, replicate}
 use Rattle.grammar.specs.Verdict.{Verdict, accepted, incomplete, refused}
 use Rattle.syntax.specs.Reading.{reading}
 

@@ -1,5 +1,5 @@
 -- The verdict on a source, as far as reading goes.
-use Rattle.std.specs.Prelude.{Bool, true, false, cond, List, [], ◌∷◌, map, ℕ, ltb, length}
+use Rattle.std.specs.Prelude.{cond, List, map, ℕ, ltb, length}
 use Rattle.grammar.specs.Tree as tree
 use Rattle.grammar.specs.Tree.{Kind, Token, at, lit, mark, op}
 use Rattle.grammar.specs.Verdict.{Verdict, reads, refused}

@@ -1,6 +1,6 @@
 -- The lines of a text, cut one by one.
-use Rattle.std.proofs.Common.{◌≡◌, ℕ, zero, suc, ◌+◌, ◌<◌, ◌≤◌, Bool, true, false, cond, eqb, ltb, List, [], ◌∷◌, length, take, drop, sym, refl, ap, ◌∙◌, add-one, arith}
-use Rattle.text_host.specs.Lines.{lines_of, joined_to}
+use Rattle.std.proofs.Common.{◌≡◌, ℕ, zero, suc, ◌+◌, ◌<◌, ◌≤◌, Bool, true, false, cond, eqb, ltb, List, [], ◌∷◌, length, take, drop, refl, ◌∙◌, add-one, arith}
+use Rattle.text_host.specs.Lines.{lines_of}
 use Rattle.host.specs.Meaning.{Bounded, short_lines}
 
 -- how many bytes stand before the first line feed, or in all

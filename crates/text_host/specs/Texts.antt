@@ -1,5 +1,5 @@
 -- What is wrong with a text.
-use Rattle.std.specs.Prelude.{ℕ, Bool, true, false, cond, List, Some, None, Option}
+use Rattle.std.specs.Prelude.{ℕ, cond, List, Some, None, Option}
 use Rattle.host.specs.Meaning.{short_lines}
 use Rattle.text_host.specs.Lines.{lines_of}
 use Rattle.text_host.specs.declared.flaws.TextFlaw.{TextFlaw}

@@ -1,4 +1,6 @@
 // Checked texts, and the host whose lines are those of one.
+#![tactic(auto)]
+
 pub mod checked;
 pub mod checks;
 pub mod flaws;

@@ -1,4 +1,6 @@
 // Lists the lines of a trace: standard input is the trace, standard output its listing.
+#![tactic(auto)]
+
 use print_buffer::buffers::PrintBuffer;
 use std::io::{Read, Write};
 use trace_listing::listings::list_trace;

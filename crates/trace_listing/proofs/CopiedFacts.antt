@@ -1,5 +1,5 @@
 -- What a copy through a quota of 4,096 bytes can have printed.
-use Rattle.std.proofs.Common.{◌≡◌, ℕ, suc, ◌+◌, ◌≤◌, List, [], ◌∷◌, ◌++◌, length, sym, refl, ap, ◌∙◌, arith, length-append}
+use Rattle.std.proofs.Common.{◌≡◌, ℕ, ◌+◌, ◌≤◌, List, [], ◌∷◌, ◌++◌, length, ap, ◌∙◌, arith, length-append}
 use Rattle.copying.specs.declared.answers.Copied.{Copied}
 use Rattle.copying.specs.Copies.{Moved}
 use Rattle.host.specs.Calls.{all_fed, fed}

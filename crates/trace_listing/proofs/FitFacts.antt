@@ -1,17 +1,15 @@
 -- A listing holds as many radii as fit.
-use Rattle.std.proofs.Common.{◌≡◌, ℕ, ◌+◌, ◌<◌, ◌≤◌, List, [], ◌∷◌, ◌++◌, map, length, take, sym, refl, ap, ◌∙◌, subst, append_assoc, arith, length-append}
+use Rattle.std.proofs.Common.{◌≡◌, ℕ, ◌+◌, ◌≤◌, List, [], ◌∷◌, ◌++◌, map, length, take, sym, refl, ap, ◌∙◌, subst, append_assoc, arith, length-append}
 use lib.ListN.{length-map}
-use Rattle.std.proofs.lemmas.List.{append-nil, take_at, take-map}
-use Rattle.copying.specs.declared.answers.Copied.{Copied}
+use Rattle.std.proofs.lemmas.List.{take_at, take-map}
 use Rattle.copying.specs.declared.answers.Ending.{Ending}
 use Rattle.copying.specs.declared.answers.Ending.TheVariants.{AllCopied, NoSpare}
-use Rattle.copying.specs.Copies.{Moved, copied, ends}
+use Rattle.copying.specs.Copies.{copied, ends}
 use Rattle.copying.specs.Endings.{ending_number}
 use Rattle.copying.proofs.AllLines.{moved_so}
 use Rattle.host.specs.Calls.{all_fed, fed}
 use Rattle.host.specs.Meaning.{Meaning}
 use Rattle.numeral.specs.Numerals.{numeral}
-use Rattle.tracer_host.specs.Traces.{radii_of}
 use Rattle.trace_listing.specs.Listings.{AsManyAsFit, EndsAfter, copied_listing, pile_start, radius_text, summary}
 
 fed_append : (xs ys : List (List ℕ)) → all_fed (xs ++ ys) ≡ all_fed xs ++ all_fed ys

@@ -1,3 +1,5 @@
+#![tactic(auto)]
+
 // Cases of the listing of a trace, worked out from the rules.
 #[cfg(test)]
 mod edges;

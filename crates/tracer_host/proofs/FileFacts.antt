@@ -1,5 +1,5 @@
 -- A file without a flaw is the file of its radii.
-use Rattle.std.proofs.Common.{◌≡◌, ℕ, suc, ◌+◌, ◌-◌, ◌*◌, ◌/◌, ◌%◌, ◌<◌, Bool, true, false, cond, ◌&&◌, eqb, ltb, leb, List, [], ◌∷◌, length, drop, Some, None, sym, refl, ap, ◌∙◌, arith}
+use Rattle.std.proofs.Common.{◌≡◌, ℕ, ◌+◌, ◌-◌, ◌*◌, ◌/◌, ◌%◌, ◌<◌, true, List, [], ◌∷◌, length, drop, None, refl, arith}
 use Rattle.tracer_host.specs.Files.{FilesExactly, all_below, file_of, words}
 use Rattle.tracer_host.specs.Traces.{radii_of, trace_flaw}
 

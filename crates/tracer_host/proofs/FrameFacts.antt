@@ -1,6 +1,6 @@
 -- A frame that is added to whole frames.
-use Rattle.std.proofs.Common.{◌≡◌, ℕ, zero, suc, Bool, true, false, cond, eqb, List, [], ◌∷◌, ◌++◌, length, sym, refl, ap, ◌∙◌, arith}
-use Rattle.host.specs.Calls.{all_fed, fed}
+use Rattle.std.proofs.Common.{◌≡◌, ℕ, zero, suc, List, [], ◌∷◌, ◌++◌, length, refl, ap, ◌∙◌, arith}
+use Rattle.host.specs.Calls.{fed}
 use Rattle.tracer_host.specs.Files.{FramesReadBack, frames_of}
 use Rattle.tracer_host.specs.Frames.{closed, pending, unframed}
 

@@ -1,8 +1,7 @@
 -- The radii of a trace, cut one by one.
-use Rattle.std.proofs.Common.{◌≡◌, ℕ, ◌+◌, ◌*◌, ◌<◌, ◌≤◌, Bool, true, false, cond, ltb, List, [], ◌∷◌, length, get_or, drop, refl, ap, ◌∙◌, arith}
+use Rattle.std.proofs.Common.{◌≡◌, ℕ, ◌+◌, ◌*◌, ◌<◌, ◌≤◌, List, [], ◌∷◌, length, get_or, drop, refl, ap, ◌∙◌, arith}
 use Rattle.std.proofs.lemmas.List.{drop_more, length-drop}
-use Rattle.host.specs.Meaning.{Bounded, short_lines}
-use Rattle.numeral.specs.Numerals.{numeral}
+use Rattle.host.specs.Meaning.{Bounded}
 use Rattle.numeral.proofs.NumeralFacts.{length_numeral}
 use Rattle.tracer_host.specs.Traces.{radii_of, radius_lines, word_at}
 

@@ -1,5 +1,5 @@
 -- Frames: lines in a buffer, each as a byte that is its length and then its text.
-use Rattle.std.specs.Prelude.{ℕ, zero, suc, Bool, true, false, cond, List, [], ◌∷◌, length, ◌==◌}
+use Rattle.std.specs.Prelude.{ℕ, zero, suc, cond, List, [], ◌∷◌, length, ◌==◌}
 
 -- a line as a frame
 abbrev pub framed : List ℕ → List ℕ

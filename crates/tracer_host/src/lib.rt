@@ -1,4 +1,6 @@
 // Checked traces, and the host whose lines are the radii of one.
+#![tactic(auto)]
+
 pub mod checked;
 pub mod checks;
 pub mod flaws;

@@ -1,6 +1,6 @@
-use Rattle.std.proofs.Common.{◌≡◌, sym, refl, ap, ◌∙◌, arith, rules}
+use Rattle.std.proofs.Common.{◌≡◌, sym, refl, ap, ◌∙◌, arith}
 use Rattle.copying.specs.Copies.{All, copied}
-use Rattle.copying.proofs.AllLines.{Next, counts, goes_on, moved, stays}
+use Rattle.copying.proofs.AllLines.{counts, goes_on, moved, stays}
 use Rattle.copying.proofs.copies.copy_lines.Goals as goal
 
 pub loop-count-preserved : goal.loop-count-preserved

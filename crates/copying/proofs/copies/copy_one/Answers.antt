@@ -1,5 +1,5 @@
 use Rattle.std.proofs.Common.{rules}
-use Rattle.copying.proofs.OneLine.{Told, Done, went_over}
+use Rattle.copying.proofs.OneLine.{went_over}
 use Rattle.copying.proofs.copies.copy_one.Goals as goal
 
 pub returns : goal.returns

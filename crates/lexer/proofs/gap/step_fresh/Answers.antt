@@ -1,4 +1,4 @@
-use Rattle.std.proofs.Common.{◌≡◌, ◌+◌, ◌-◌, ◌<◌, length, get_or, drop, sym, ap, ◌∙◌, arith}
+use Rattle.std.proofs.Common.{◌+◌, drop, sym, ap, ◌∙◌, arith}
 use Rattle.lexis.specs.Lines.{lex}
 use Rattle.lexis.specs.declared.lines.Mode.{Mode}
 use Rattle.lexis.proofs.Going.{fresh_move, past_comment, comment_some}

@@ -1,4 +1,4 @@
-use Rattle.std.proofs.Common.{◌≡◌, ◌<◌, Bool, true, false, ◌||◌, eqb, reverse, sym, ap, ◌∙◌, arith}
+use Rattle.std.proofs.Common.{◌<◌, true, false, ◌||◌, eqb, sym, ap, ◌∙◌, arith}
 use Rattle.stack.specs.Held.{held}
 use Rattle.lexis.specs.Lines.{is_open, top_level}
 use Rattle.lexer.proofs.Among.{among_reverse, below_top}

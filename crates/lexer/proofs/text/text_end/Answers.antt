@@ -1,4 +1,4 @@
-use Rattle.std.proofs.Common.{sym, ap, ◌∙◌, arith}
+use Rattle.std.proofs.Common.{sym, ◌∙◌, arith}
 use Rattle.std.proofs.lemmas.List.{at_drop_all}
 use Rattle.lexis.specs.Texts.{text_end}
 use Rattle.lexer.proofs.Quotes.{text_on, text_closed, text_bad}

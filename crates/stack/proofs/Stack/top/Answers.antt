@@ -1,6 +1,6 @@
 use Rattle.std.proofs.Common.{reverse, Some, sym, ap, ◌∙◌}
 use Rattle.std.proofs.lemmas.List.{length-reverse}
-use Rattle.stack.specs.Held.{held, top_of}
+use Rattle.stack.specs.Held.{top_of}
 use Rattle.stack.proofs.Taken.{top_at, none_held}
 use Rattle.stack.proofs.Stack.top.Goals as goal
 

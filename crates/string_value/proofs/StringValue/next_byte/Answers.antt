@@ -1,5 +1,5 @@
-use Rattle.std.proofs.Common.{◌≡◌, ◌+◌, false, ◌∷◌, length, get_or, drop, sym, refl, ap, ◌∙◌, arith}
-use Rattle.lexis.specs.Texts.{value_from, unescaped}
+use Rattle.std.proofs.Common.{◌+◌, false, ◌∷◌, length, drop, sym, ap, ◌∙◌, arith}
+use Rattle.lexis.specs.Texts.{value_from}
 use Rattle.string_value.proofs.Values.{value_none, plain_step, escape_step, lone_step}
 use Rattle.string_value.proofs.StringValue.next_byte.Goals as goal
 

@@ -1,4 +1,4 @@
-use Rattle.std.proofs.Common.{◌≡◌, ◌≤◌, drop}
+use Rattle.std.proofs.Common.{◌≡◌, drop}
 use Rattle.host.specs.Meaning.{short_lines}
 use Rattle.text_host.specs.Lines.{lines_of}
 use Rattle.text_host.proofs.LineFacts.{short_run}

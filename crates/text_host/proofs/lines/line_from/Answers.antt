@@ -1,4 +1,4 @@
-use Rattle.std.proofs.Common.{◌≡◌, ℕ, ◌+◌, ◌-◌, ◌≤◌, List, [], ◌∷◌, length, take, drop, IfSome, Some, None, Option, ap, ◌∙◌, arith, length-drop, rules, MatchOption}
+use Rattle.std.proofs.Common.{◌≡◌, ℕ, ◌+◌, ◌-◌, ◌≤◌, List, [], ◌∷◌, length, take, drop, IfSome, Some, None, Option, ap, ◌∙◌, arith, length-drop, MatchOption}
 use Rattle.std.proofs.lemmas.List.{drop-drop, take_rest}
 use Rattle.text_host.specs.Lines.{lines_of}
 use Rattle.text_host.proofs.LineFacts.{lines_none}

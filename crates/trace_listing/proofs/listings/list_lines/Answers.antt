@@ -1,4 +1,4 @@
-use Rattle.std.proofs.Common.{◌≡◌, ◌≤◌, [], ◌++◌, length, ap, arith, length-append, rules}
+use Rattle.std.proofs.Common.{[], ◌++◌, ap, arith, length-append, rules}
 use Rattle.print_buffer.specs.Buffers.{buffer_bytes}
 use Rattle.host.specs.Meaning.{Meaning, under_quota}
 use Rattle.text_host.specs.HostMeaning.{text_meaning}

@@ -1,4 +1,4 @@
-use Rattle.std.proofs.Common.{◌≡◌, ℕ, List, [], drop, Some, None, sym, ap, ◌∙◌, subst, arith}
+use Rattle.std.proofs.Common.{◌≡◌, ℕ, List, [], drop, Some, sym, ap, ◌∙◌, subst, arith}
 use Rattle.copying.specs.Copies.{copied}
 use Rattle.host.specs.Meaning.{Meaning}
 use Rattle.host.proofs.Checked.{passed, refused}

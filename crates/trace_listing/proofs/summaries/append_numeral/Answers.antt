@@ -1,4 +1,4 @@
-use Rattle.std.proofs.Common.{◌≡◌, [], ◌∷◌, ◌++◌, length, replicate, Ok, Err, sym, ◌∙◌, arith, length-append}
+use Rattle.std.proofs.Common.{[], ◌∷◌, ◌++◌, replicate, sym, ◌∙◌, arith, length-append}
 use Rattle.print_buffer.specs.Buffers.{buffer_bytes}
 use Rattle.numeral.specs.Numerals.{numeral}
 use Rattle.numeral.proofs.NumeralFacts.{length_numeral, written_front}

@@ -1,4 +1,4 @@
-use Rattle.std.proofs.Common.{append_assoc, arith, rules}
+use Rattle.std.proofs.Common.{append_assoc, arith}
 use Rattle.trace_listing.proofs.summaries.append_summary.Goals as goal
 
 pub returns : goal.returns

@@ -1,4 +1,4 @@
-use Rattle.std.proofs.Common.{sym, arith, rules}
+use Rattle.std.proofs.Common.{sym, arith}
 use Rattle.arena.specs.Tables.{arena_nodes}
 use Rattle.arena.proofs.Stored.{node_here, node_none}
 use Rattle.arena.proofs.arenas.Arena.node.Goals as goal

@@ -1,5 +1,5 @@
-use Rattle.std.proofs.Common.{◌≡◌, ◌+◌, true, [], ◌∷◌, ◌++◌, length, sym, ap, ◌∙◌, subst, zero-add, arith, rules}
-use Rattle.arena.specs.Order.{before, ordered}
+use Rattle.std.proofs.Common.{◌≡◌, ◌+◌, true, length, arith, rules}
+use Rattle.arena.specs.Order.{before}
 use Rattle.arena.specs.Tables.{arena_nodes}
 use Rattle.arena.proofs.Stored.{ordered_more}
 use Rattle.arena.proofs.arenas.Arena.push.Goals as goal

@@ -1,4 +1,4 @@
-use Rattle.std.proofs.Common.{◌≡◌, ℕ, ◌+◌, ◌-◌, ◌<◌, List, [], ◌∷◌, length, drop, sym, refl, ap, ◌∙◌, arith, rules}
+use Rattle.std.proofs.Common.{ℕ, List, ◌∷◌, drop, sym, ap, ◌∙◌, rules}
 use Rattle.stack.specs.Held.{held}
 use Rattle.lexis.specs.Lines.{lex, ending}
 use Rattle.lexis.specs.Tokens.{Tok}

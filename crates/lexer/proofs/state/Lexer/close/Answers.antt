@@ -1,6 +1,6 @@
-use Rattle.std.proofs.Common.{◌≡◌, ℕ, ◌+◌, ◌-◌, ◌<◌, List, [], ◌∷◌, length, drop, Some, None, Option, sym, refl, ap, ◌∙◌, arith, rules}
+use Rattle.std.proofs.Common.{◌≡◌, ℕ, ◌+◌, ◌-◌, List, [], ◌∷◌, length, drop, None, sym, refl, ap, ◌∙◌, arith, rules}
 use Rattle.stack.specs.Held.{held, room, top_of}
-use Rattle.lexis.specs.Lines.{closing, lex}
+use Rattle.lexis.specs.Lines.{closing}
 use Rattle.lexis.specs.Tokens.{Tok}
 use Rattle.lexis.specs.declared.lines.Mode.{Mode}
 use Rattle.lexis.proofs.Going.{ended}

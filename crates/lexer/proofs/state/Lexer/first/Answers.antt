@@ -1,7 +1,7 @@
-use Rattle.std.proofs.Common.{◌≡◌, ℕ, ◌+◌, ◌-◌, ◌<◌, List, [], ◌∷◌, length, drop, sym, refl, ap, ◌∙◌, arith, rules}
+use Rattle.std.proofs.Common.{◌≡◌, ℕ, ◌+◌, ◌-◌, ◌<◌, List, ◌∷◌, length, drop, sym, refl, ap, ◌∙◌, arith, rules}
 use Rattle.std.proofs.lemmas.List.{take_rest}
 use Rattle.stack.specs.Held.{held, room, top_of}
-use Rattle.lexer.specs.Left.{bytes_of, spot_of, free}
+use Rattle.lexer.specs.Left.{bytes_of, free}
 use Rattle.lexer.specs.Room.{within}
 use Rattle.lexer.specs.Gaps.{ahead}
 use Rattle.lexis.specs.Lines.{lex}

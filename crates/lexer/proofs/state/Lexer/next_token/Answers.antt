@@ -1,9 +1,7 @@
-use Rattle.std.proofs.Common.{◌≡◌, drop, sym, ap, ◌∙◌, rules}
+use Rattle.std.proofs.Common.{drop, sym, ap, ◌∙◌, rules}
 use Rattle.stack.specs.Held.{held}
 use Rattle.lexis.specs.Lines.{lex}
 use Rattle.lexis.specs.declared.lines.Mode.{Mode}
-use Rattle.lexis.specs.declared.lines.Spot.{Spot}
-use Rattle.lexer.specs.Gaps.{ahead}
 use Rattle.lexer.specs.Left.{bytes_of, free, from}
 use Rattle.lexer.specs.Room.{within}
 use Rattle.lexer.proofs.Moves.{lex_over}

@@ -1,6 +1,6 @@
 use Rattle.std.proofs.Common.{◌<◌, sym, refl, ◌∙◌, arith, rules}
 use Rattle.std.proofs.lemmas.List.{length-set}
-use Rattle.numeral.specs.Numerals.{numeral, numeral_before}
+use Rattle.numeral.specs.Numerals.{numeral}
 use Rattle.numeral.proofs.NumeralFacts.{room, one_less, numeral_more, numeral_last}
 use Rattle.numeral.proofs.rows.DigitRow.of.Goals as goal
 

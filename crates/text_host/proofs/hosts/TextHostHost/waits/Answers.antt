@@ -1,4 +1,4 @@
-use Rattle.std.proofs.Common.{arith, rules}
+use Rattle.std.proofs.Common.{rules}
 use Rattle.text_host.specs.HostMeaning.{text_bytes}
 use Rattle.text_host.proofs.LineFacts.{bounded_drop}
 use Rattle.text_host.proofs.hosts.TextHostHost.waits.Goals as goal

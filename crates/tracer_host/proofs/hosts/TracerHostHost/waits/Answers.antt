@@ -1,4 +1,4 @@
-use Rattle.std.proofs.Common.{drop, arith, rules}
+use Rattle.std.proofs.Common.{drop, arith}
 use Rattle.numeral.proofs.NumeralFacts.{length_numeral}
 use Rattle.tracer_host.specs.HostMeaning.{trace_bytes}
 use Rattle.tracer_host.proofs.RadiusFacts.{radius_short}
