@@ -1,9 +1,9 @@
 -- How what is told is put together.
-use Rattle.std.proofs.Common.{◌≡◌, ℕ, suc, ◌+◌, ◌*◌, ◌<◌, ◌≤◌, true, false, ◌&&◌, ltb, leb, List, [], ◌∷◌, ◌++◌, length, drop, IsErrAnd, Ok, Err, Result, sym, refl, ap, ◌∙◌, subst, append_assoc, arith, length-append}
+use Rattle.std.proofs.Common.{◌≡◌, ℕ, suc, ◌+◌, ◌*◌, ◌<◌, ◌≤◌, true, false, ◌&&◌, ltb, leb, List, [], ◌∷◌, ◌++◌, length, drop, IsErrAnd, Some, Ok, Err, Result, sym, refl, ap, ◌∙◌, subst, append_assoc, arith, length-append}
 use Rattle.std.proofs.lemmas.List.{append-nil}
 use Rattle.std.proofs.lemmas.Bool.{lt-leb, lt-ltb}
 use Rattle.arena.proofs.Growth.{trees_stand}
-use Rattle.arena.specs.Tables.{arena_limit, arena_nodes}
+use Rattle.arena.specs.Tables.{arena_limit, arena_nodes, node_at}
 use Rattle.arena.specs.Trees.{over, phrase}
 use Rattle.arena.specs.declared.arenas.Arena.{Arena}
 use Rattle.arena.specs.declared.nodes.Node.{Node}
@@ -15,7 +15,7 @@ use Rattle.reader.specs.Feeds.{coming, feed_source}
 use Rattle.reader.specs.Forms.{form_of}
 use Rattle.reader.specs.Keeping.{Kept, Room}
 use Rattle.reader.specs.Stops.{stop_of}
-use Rattle.reader.specs.Told.{Made, Told, Went, having}
+use Rattle.reader.specs.Told.{Made, NamedAt, NamedBy, Told, Went, having}
 use Rattle.reader.specs.declared.feeds.Feed.{Feed}
 use Rattle.reader.specs.declared.forms.Form.{Form}
 use Rattle.reader.specs.declared.forms.Read.{Read}
@@ -52,12 +52,17 @@ pub exit : {P : Hole → Type 0} {s : Hole → State} {f g : Feed} {n m : Arena}
 exit (Ok i) y e k w = absurd e
 exit (Err z) y e k w = record { kept = k; goes = λ h p. w h p ∙ ap stop_of (sym e) }
 
+-- the node behind some others
+pub last_node : (ns : List Node) (x : Node) → node_at (ns ++ (x ∷ [])) (length ns) ≡ Some x
+last_node [] x = refl
+last_node (n ∷ ns) x = last_node ns x
+
 -- A node was stored for what was read.
-pub told_made : {P : Hole → Type 0} {s : Hole → State} {f g : Feed} {n m k : Arena} {p : ℕ} {form : Form} {node : Node} {r : Read} → Kept f n g m → Made m k p form node r
+pub told_made : {P : Hole → Type 0} {s : Hole → State} {f g : Feed} {n m k : Arena} {p : ℕ} {form : Form} {node : Node} {r : Read} → Kept f n g m → Made m k p form node r → NamedAt (arena_nodes m ++ (node ∷ [])) form p (length (arena_nodes m))
     → length (arena_nodes m) + 2 + 4 * length (coming g) ≤ length (arena_nodes n) + 4 * length (coming f) → length (coming g) < length (coming f)
     → ((h : Hole) → P h → limited 64 (coming f) (s h) ≡ limited 64 (coming g) (have p (form_of form (over (feed_source f) (phrase (feed_source f) (arena_nodes m)) node).expr) (over (feed_source f) (phrase (feed_source f) (arena_nodes m)) node).expr h))
     → Told P s f n g k (Ok r)
-told_made {P} {s} {f} {g} {n} {m} {k} {p} {form} {node} {r} kept made cost some w =
+told_made {P} {s} {f} {g} {n} {m} {k} {p} {form} {node} {r} kept made named cost some w =
     let src = feed_source f in
     let e = (over src (phrase src (arena_nodes m)) node).expr in
     let one : length (arena_nodes k) ≡ length (arena_nodes m) + 1 = ap length made.nodes ∙ length-append (arena_nodes m) (node ∷ []) in
@@ -75,6 +80,7 @@ told_made {P} {s} {f} {g} {n} {m} {k} {p} {form} {node} {r} kept made cost some 
         stored = omega (arith, one);
         some = some;
         spare = omega (arith, one, cost);
+        named = subst (λ ns. NamedAt ns form p (length (arena_nodes m))) (sym made.nodes) named;
         goes = λ h q. w h q ∙ ap (λ x. limited 64 (coming g) (have p (form_of form x) x h)) (sym new);
       });
     }
@@ -83,12 +89,14 @@ told_made {P} {s} {f} {g} {n} {m} {k} {p} {form} {node} {r} kept made cost some 
 pub record Grew (P : Hole → Type 0) (f : Feed) (n : Arena) (x : Read) (g : Feed) (m : Arena) (y : Read) : Type 0 where
   pub kept : Kept f n g m
   pub stored : y.node < length (arena_nodes m)
+  pub named : NamedBy (arena_nodes n) x → NamedBy (arena_nodes m) y
   pub goes : (h : Hole) → P h → limited 64 (coming f) (having (feed_source f) (arena_nodes n) x h) ≡ limited 64 (coming g) (having (feed_source f) (arena_nodes m) y h)
 
 pub grew_more : {P : Hole → Type 0} {f g h : Feed} {n m k : Arena} {x y z : Read} → Grew P f n x g m y → Told P (having (feed_source g) (arena_nodes m) y) g m h k (Ok z) → Grew P f n x h k z
 grew_more {f = f} {g = g} {h = h} {m = m} {k = k} {y = y} {z = z} a b = record {
   kept = kept_then a.kept b.kept;
   stored = b.goes.stored;
+  named = λ _. b.goes.named;
   goes = λ j p. a.goes j p
       ∙ ap (λ src. limited 64 (coming g) (having src (arena_nodes m) y j)) (sym a.kept.source) ∙ b.goes.goes j p
       ∙ ap (λ src. limited 64 (coming h) (having src (arena_nodes k) z j)) a.kept.source;
@@ -102,6 +110,7 @@ grew_told {e = e} {f = f} {g = g} {n = n} {m = m} {x = x} {y = y} a b = record {
     stored = b.stored;
     some = omega (arith, a.goes.some, b.kept.fewer);
     spare = omega (arith, a.goes.spare, b.kept.cost);
+    named = b.named a.goes.named;
     goes = λ j p. a.goes.goes j p
         ∙ ap (λ src. limited 64 (coming f) (having src (arena_nodes n) x j)) (sym a.kept.source) ∙ b.goes j p
         ∙ ap (λ src. limited 64 (coming g) (having src (arena_nodes m) y j)) a.kept.source;

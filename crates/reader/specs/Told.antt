@@ -46,9 +46,17 @@ pub record Loose (l d : ℕ) (h : Hole) : Type 0 where
   pub asked : asks h ≤ l
   pub deep : hole_depth h ≡ d
 
--- a name is the node of a variable, at the expression's place
+-- a name at the place p is the node of a variable there
+abbrev pub NamedAt : List Node → Form → ℕ → ℕ → Type 0
+NamedAt ns Form.Named p i = (s : Stretch) × ((s.at ≡ p) × (node_at ns i ≡ Some (Node.Variable s)))
+NamedAt ns Form.Member p i = Unit {0}
+NamedAt ns Form.Indexed p i = Unit {0}
+NamedAt ns Form.Closed p i = Unit {0}
+NamedAt ns (Form.Binary r) p i = Unit {0}
+NamedAt ns (Form.Prefix o) p i = Unit {0}
+
 abbrev pub NamedBy : List Node → Read → Type 0
-NamedBy ns r = r.form ≡ Form.Named → (s : Stretch) × ((s.at ≡ r.place) × (node_at ns r.node ≡ Some (Node.Variable s)))
+NamedBy ns r = NamedAt ns r.form r.place r.node
 
 -- an expression was read: from one state, the machine comes to have it; a node more than before fits
 pub record Went (P : Hole → Type 0) (s : Hole → State) (src : List ℕ) (k : ℕ) (ns : List Node) (ts us : List Token) (r : Read) : Type 0 where

@@ -38,7 +38,7 @@ pub(crate) fn empty_body(arena: &mut Arena) -> Body
 fn item<S: Scope>(feed: &mut Feed<'_, '_>, arena: &mut Arena, depth: usize) -> Result<Item, Stop>
     requires room { Room feed.old arena.old }
     requires deep { depth ≤ 64 }
-    ensures { ItemTold owns depth feed.old arena.old feed.new arena.new result }
+    ensures { ItemTold S.Scope.owns depth feed.old arena.old feed.new arena.new result }
 {
     let Some(next) = feed.next() else {
         return Err(Stop::Unfinished);
@@ -67,7 +67,7 @@ fn declarations<S: Scope>(
     requires room { Room feed.old arena.old }
     requires deep { depth ≤ 64 }
     requires stored { none < length (arena_nodes arena.old) }
-    ensures { OpeningTold owns depth none feed.old arena.old feed.new arena.new result }
+    ensures { OpeningTold S.Scope.owns depth none feed.old arena.old feed.new arena.new result }
 {
     let mut before = none;
     loop {
@@ -95,7 +95,7 @@ pub(crate) fn whole_body<S: Scope>(
     requires room { Room feed.old arena.old }
     requires deep { depth ≤ 64 }
     requires empty { EmptyBody arena.old empty }
-    ensures { BodyTold owns depth feed.old arena.old feed.new arena.new result }
+    ensures { BodyTold S.Scope.owns depth feed.old arena.old feed.new arena.new result }
 {
     let Opening {
         declarations,

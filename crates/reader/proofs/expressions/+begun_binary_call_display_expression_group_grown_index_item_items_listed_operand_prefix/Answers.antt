@@ -1,6 +1,7 @@
 use Rattle.std.proofs.Common.{◌≡◌, ◌+◌, ◌<◌, leb, ◌∷◌, length, drop, sym, refl, ap, ◌∙◌, subst, arith, rules}
 use Rattle.std.proofs.lemmas.Bool.{le-leb}
 use Rattle.arena.specs.Tables.{arena_nodes}
+use Rattle.arena.specs.declared.nodes.Node.{Node}
 use Rattle.arena.specs.Trees.{binary_of, phrase, prefix_of, spelled, literal_of}
 use Rattle.grammar.specs.Tree as tree
 use Rattle.grammar.specs.Tree.{at}
@@ -17,7 +18,7 @@ use Rattle.reader.specs.declared.kinds.Mark as marks
 use Rattle.reader.proofs.Machine.{callable_same, goes_on, joins, lists, pars, opens, rests, sheds_op, sheds_pre, signs, stuck_end, stuck_next, subs, tight_same, unclosed}
 use Rattle.reader.specs.Taking.{NoMark}
 use Rattle.reader.proofs.ListSteps.{exit_list, item_told, listing_end, listing_more, listing_stop, listing_told, listed_empty, listed_items, listed_spare, opened, Opened, unlisted}
-use Rattle.reader.proofs.Steps.{Passed, both_before, exit, faced, grew_more, grew_stop, grew_told, kept_long, kept_passed, kept_phrase, kept_still, passed, passed_long, room_left, room_on, shallow, told_made}
+use Rattle.reader.proofs.Steps.{Passed, both_before, exit, faced, grew_more, grew_stop, grew_told, kept_long, kept_passed, kept_phrase, kept_still, last_node, passed, passed_long, room_left, room_on, shallow, told_made}
 use Rattle.reader.proofs.Storing.{kept_then}
 use Rattle.reader.proofs.expressions.+begun_binary_call_display_expression_group_grown_index_item_items_listed_operand_prefix.Goals as goal
 
@@ -31,7 +32,7 @@ begun-returns-in-Name t c =
     let face : coming f ≡ at (tree.name (spelled src s)) s.at ∷ drop 1 (coming f) = c.requires.facing ∙ ap (λ x. x ∷ drop 1 (coming f)) told in
     let p = passed face c.leaf.ensures.coming c.leaf.ensures.source in
     let long = passed_long p in
-    told_made (kept_passed n p) c.leaf.ensures.made (omega (arith, long)) (omega (arith, long)) (λ h q. ap (λ ts. limited 64 ts (want h)) p.first)
+    told_made (kept_passed n p) c.leaf.ensures.made (s, (refl, last_node (arena_nodes n) (Node.Variable s))) (omega (arith, long)) (omega (arith, long)) (λ h q. ap (λ ts. limited 64 ts (want h)) p.first)
 
 pub begun-returns-in-Constant : goal.begun-returns-in-Constant
 begun-returns-in-Constant t c =
@@ -41,7 +42,7 @@ begun-returns-in-Constant t c =
     let face : coming f ≡ at (tree.lit (literal_of src c.in-Constant.literal)) c.args.next.place ∷ drop 1 (coming f) = c.requires.facing ∙ ap (λ x. x ∷ drop 1 (coming f)) (c.in-Constant.ensures src) in
     let p = passed face c.leaf-in-Constant.ensures.coming c.leaf-in-Constant.ensures.source in
     let long = passed_long p in
-    told_made (kept_passed n p) c.leaf-in-Constant.ensures.made (omega (arith, long)) (omega (arith, long)) (λ h q. ap (λ ts. limited 64 ts (want h)) p.first)
+    told_made (kept_passed n p) c.leaf-in-Constant.ensures.made tt (omega (arith, long)) (omega (arith, long)) (λ h q. ap (λ ts. limited 64 ts (want h)) p.first)
 
 pub prefix-returns-in_err-operand : goal.prefix-returns-in_err-operand
 prefix-returns-in_err-operand t c =
@@ -79,7 +80,7 @@ prefix-returns t c =
     let deep : c.args.depth < 64 = omega (arith, c.requires.deep, c.if-depth-eq-MOST_LEVELS.false) in
     let reach : c.tight-reach.result ≡ tree.reach (prefix_of o) = c.tight-reach.ensures in
     let e = (phrase (feed_source g) (arena_nodes c.expression.new.arena) x.node).expr in
-    told_made (kept_then (kept_passed n p) told.kept) c.made.ensures (omega (arith, long, told.goes.spare)) (omega (arith, long, told.goes.some))
+    told_made (kept_then (kept_passed n p) told.kept) c.made.ensures tt (omega (arith, long, told.goes.spare)) (omega (arith, long, told.goes.some))
     (λ h q.
     let a = q.asked in
     let spot : Spot c.tight-reach.result (c.args.depth + 1) (under place (prefix_of o) h) = record { asked = sym reach; deep = let z = q.deep in omega (arith, z) } in
@@ -220,7 +221,7 @@ binary-returns t c =
     let ns = arena_nodes c.expression.new.arena in
     let e' = (phrase (feed_source g) ns y.node).expr in
     let i = x.place in
-    told_made kept c.made.ensures (omega (arith, long, told.goes.spare)) (omega (arith, long, told.goes.some))
+    told_made kept c.made.ensures tt (omega (arith, long, told.goes.spare)) (omega (arith, long, told.goes.some))
     (λ h q.
     let a = q.asked in
     let spot : Spot (c.level.result + 1) c.args.depth (rhs i (binary_of o) e h) = record { asked = omega (arith, level); deep = q.deep } in
@@ -256,7 +257,7 @@ call-returns t c =
     let i = x.place in
     let face = faced src c.args.next (coming f) Kind.LeftRound c.requires.facing c.requires.kind in
     let deep : c.args.depth < 64 = omega (arith, c.requires.deep, c.if-depth-eq-MOST_LEVELS.false) in
-    told_made told.kept c.made.ensures spare (omega (arith, spare, more))
+    told_made told.kept c.made.ensures tt spare (omega (arith, spare, more))
     (λ h q.
     ap (λ ts. limited 64 ts (having src (arena_nodes n) x h)) face
     ∙ pars i (form_of x.form e) e h c.args.next.place (drop 1 (coming f)) (callable_same x.form e ∙ c.requires.callable) (shallow h q deep)
@@ -272,7 +273,7 @@ display-returns t c =
     let more = kept_long told.kept in
     let face = faced src c.args.next (coming f) Kind.LeftSquare c.requires.facing c.requires.kind in
     let deep : c.args.depth < 64 = omega (arith, c.requires.deep, c.if-depth-eq-MOST_LEVELS.false) in
-    told_made told.kept c.made.ensures spare (omega (arith, spare, more))
+    told_made told.kept c.made.ensures tt spare (omega (arith, spare, more))
     (λ h q.
     ap (λ ts. limited 64 ts (want h)) face
     ∙ lists h c.args.next.place (drop 1 (coming f)) (shallow h q deep)
@@ -357,7 +358,7 @@ index-returns t c =
     let long = passed_long p in
     let last = passed_long r in
     let kept = kept_then (kept_passed n p) (kept_then told.kept (kept_passed c.expression.new.arena r)) in
-    told_made kept c.made.ensures (omega (arith, long, last, told.goes.spare)) (omega (arith, long, last, told.goes.some))
+    told_made kept c.made.ensures tt (omega (arith, long, last, told.goes.spare)) (omega (arith, long, last, told.goes.some))
     (λ h q.
     let spot : Spot 0 (c.args.depth + 1) (index i e h) = record { asked = refl; deep = omega (arith, q) } in
     ap (λ ts. limited 64 ts (having src (arena_nodes n) x h)) p.first

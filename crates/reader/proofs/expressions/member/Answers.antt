@@ -46,7 +46,7 @@ returns c =
     let r : Passed (at (tree.name (spelled (feed_source g) name)) name.at) g c.take_name.new.feed = record { first = c.in_ok-name.ensures.told; source = c.in_ok-name.ensures.source } in
     let long = passed_long p in
     let more = passed_long r in
-    told_made (kept_then (kept_passed n p) (kept_passed n r)) c.made.ensures (omega (arith, long, more)) (omega (arith, long, more))
+    told_made (kept_then (kept_passed n p) (kept_passed n r)) c.made.ensures tt (omega (arith, long, more)) (omega (arith, long, more))
     (λ h q.
     ap (λ ts. limited 64 ts (having src (arena_nodes n) x h)) p.first
     ∙ dots x.place (form_of x.form e) e h c.args.next.place (coming g) (ap (leb 8) (tight_same x.form e) ∙ c.requires.tight)

@@ -1,6 +1,12 @@
-use Rattle.std.proofs.Common.{◌≡◌, ℕ, ◌⊎◌, List, [], ◌∷◌, refl, ap, inl, inr}
+use Rattle.std.proofs.Common.{◌≡◌, ℕ, ◌⊎◌, true, List, [], ◌∷◌, Some, sym, subst, ◌∙◌, refl, ap, inl, inr}
 use mathlib.Core.Option.{none}
 use Rattle.arena.specs.declared.nodes.PrefixOperator.{PrefixOperator}
+use Rattle.arena.proofs.Growth.{trees_stand}
+use Rattle.arena.specs.Order.{ordered}
+use Rattle.arena.specs.Tables.{arena_nodes, node_at}
+use Rattle.arena.specs.Trees.{Phrase, phrase, spelled}
+use Rattle.arena.specs.declared.nodes.Node.{Node}
+use Rattle.arena.specs.declared.nodes.Stretch.{Stretch}
 use Rattle.grammar.specs.Tree as tree
 use Rattle.grammar.specs.Tree.{Expr, Token, id}
 use Rattle.grammar.specs.Reader.{Body, Frame, arms, base, declared, eachs, either, inside, loops, of_var, other, pick, typing, vars}
@@ -8,7 +14,9 @@ use Rattle.reader.specs.Feeds.{coming}
 use Rattle.reader.specs.Forms.{form_of}
 use Rattle.reader.specs.Places.{Unsaid}
 use Rattle.reader.specs.Taking.{Another}
+use Rattle.reader.specs.Told.{NamedAt, NamedBy}
 use Rattle.reader.specs.declared.forms.Form.{Form}
+use Rattle.reader.specs.declared.forms.Read.{Read}
 use Rattle.reader.specs.declared.forms.Rank.{Rank}
 use Rattle.reader.specs.declared.kinds.Mark.{Mark}
 use Rattle.reader.proofs.items.defined_name.Goals as goal
@@ -58,3 +66,18 @@ returns-else-passes c =
 
 pub returns-in-Member : goal.returns-in-Member
 returns-in-Member c = let r = c.args.read in record { told = (refl, (λ e b. unnamed e b r.place r.form (coming c.args.feed.now) c.in-Member.is)); source = refl }
+
+-- the name's node stands for a variable at its place
+named_here : (ns : List Node) (r : Read) (name : Stretch) → ordered 0 ns ≡ true → r.form ≡ Form.Named → NamedBy ns r → node_at ns r.node ≡ Some (Node.Variable name)
+    → (name.at ≡ r.place) × ((src : List ℕ) → (phrase src ns r.node).expr ≡ tree.var r.place (spelled src name))
+named_here ns r name sorted is named here =
+    let k : NamedAt ns Form.Named r.place r.node = subst (λ f. NamedAt ns f r.place r.node) is named in
+    let two : Some (Node.Variable k.0) ≡ Some (Node.Variable name) = sym k.1.1 ∙ here in
+    let same : k.0 ≡ name = cc in
+    let place : name.at ≡ r.place = sym (ap (λ (s : Stretch). s.at) same) ∙ k.1.0 in
+    (place, (λ src. ap (λ (x : Phrase). x.expr) (trees_stand.unfolds src ns r.node (Node.Variable name) sorted here) ∙ ap (λ i. tree.var i (spelled src name)) place))
+
+pub returns-then-passes-clause-told : goal.returns-then-passes-clause-told
+returns-then-passes-clause-told c =
+    let here = named_here (arena_nodes c.args.arena.now) c.args.read c.in-Some-Variable.name c.args.arena.now.sorted c.in-Named.is c.requires.named (sym c.node.ensures ∙ c.in-Some-Variable.is ∙ ap Some c.in-Some-Variable.field-0-is) in
+    (c.in-Named.is, here.0, here.1, c.if-passes.ensures.told)

@@ -59,10 +59,10 @@ defines src r s e p fr q us form here spell =
     ∙ ap (λ i. limited 64 us (typing (of_var (id i (spelled src s)) (inside fr)))) (sym here)
 
 -- up to the definition's type
-before_type : {d : ℕ} {f g h : Feed} {n m : Arena} {r : Read} {s : Stretch} (p : ℕ) → ((b : Body) → limited 64 (coming f) (start b) ≡ limited 64 (coming f) (want (line p tree.nil b))) → Told (Spot 0 d) want f n g m (Ok r)
+before_type : {d : ℕ} {f g h : Feed} {n m : Arena} {r : Read} (s : Stretch) (p : ℕ) → ((b : Body) → limited 64 (coming f) (start b) ≡ limited 64 (coming f) (want (line p tree.nil b))) → Told (Spot 0 d) want f n g m (Ok r)
     → r.form ≡ Form.Named → s.at ≡ r.place → ((src : List ℕ) → (phrase src (arena_nodes m) r.node).expr ≡ tree.var r.place (spelled src s)) → (q : ℕ) → Passed (at (tree.mark tree.colon) q) g h
     → Along {X = At d} (λ x. limited 64 (coming f) (start (body_of x))) (λ x. limited 64 (coming h) (typing (of_var (named (feed_source h) s) (inside (frame_of x.owner x.declared))))) f n h m
-before_type {d} {f} {g} {h} {n} {m} {r} {s} p begin told form here spell q colon =
+before_type {d} {f} {g} {h} {n} {m} {r} s p begin told form here spell q colon =
     let src : feed_source f ≡ feed_source h = sym (colon.source ∙ told.kept.source) in
     let begun : Along {X = At d} (λ x. limited 64 (coming f) (start (body_of x))) (λ x. limited 64 (coming f) (want (line p tree.nil (body_of x)))) f n f n = record { kept = kept_all f n; goes = λ x. begin (body_of x) } in
     along begun (along (along_read {X = At d} src told (λ x. line p tree.nil (body_of x)) (spot_of p))
@@ -87,7 +87,7 @@ returns-in_err-variable c =
     let colon : Passed (at (tree.mark tree.colon) name.told.3.0) g h = record { first = name.told.3.1; source = name.source } in
     let bad = c.in_err-variable.ensures in
     stopped_behind c.from_residual-in_err-variable.result _ c.from_residual-in_err-variable.ensures.1
-    (before_type c.args.next.place (λ b. begins_line (feed_source f) c.args.next (coming f) b c.requires.facing c.requires.kind) ok name.told.0 name.told.1 name.told.2 name.told.3.0 colon) bad.kept
+    (before_type c.in-Some.name c.args.next.place (λ b. begins_line (feed_source f) c.args.next (coming f) b c.requires.facing c.requires.kind) ok name.told.0 name.told.1 name.told.2 name.told.3.0 colon) bad.kept
     (λ x. bad.tells (outer_of x))
 
 pub returns-in-Some : goal.returns-in-Some
@@ -107,7 +107,7 @@ returns-in-Some c =
     let colon : Passed (at (tree.mark tree.colon) name.told.3.0) g h = record { first = name.told.3.1; source = name.source } in
     let done = c.in_ok-variable.ensures in
     let a : Along {X = At d} (λ x. limited 64 (coming f) (start (body_of x))) (λ x. limited 64 (coming h) (typing (of_var (named (feed_source h) s) (inside (frame_of x.owner x.declared))))) f n h m =
-    before_type c.args.next.place (λ b. begins_line (feed_source f) c.args.next (coming f) b c.requires.facing c.requires.kind) ok name.told.0 name.told.1 name.told.2 name.told.3.0 colon in
+    before_type c.in-Some.name c.args.next.place (λ b. begins_line (feed_source f) c.args.next (coming f) b c.requires.facing c.requires.kind) ok name.told.0 name.told.1 name.told.2 name.told.3.0 colon in
     let src : feed_source h ≡ feed_source f = colon.source ∙ ok.kept.source in
     record {
       kept = kept_then a.kept done.kept;
