@@ -22,7 +22,7 @@ pub(crate) struct Parameter {
 }
 
 // Reads one parameter.
-fn one_parameter(
+pub(crate) fn one_parameter(
     feed: &mut Feed<'_, '_>,
     arena: &mut Arena,
     depth: usize,
