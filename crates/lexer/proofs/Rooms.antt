@@ -115,10 +115,10 @@ plain_count Tok.done e = refl
 plain_count (Tok.fault f) e = refl
 
 -- with slots for all of the INDENTs, nothing changes
-abbrev Goes_on : ℕ → ℕ → Tok → List (ℕ × Tok) → Type 0
-Goes_on free p t ts = count_of t + indents ts ≤ free → (indents ts ≤ free_after t free → within (free_after t free) ts ≡ ts) → within free ((p, t) ∷ ts) ≡ (p, t) ∷ ts
+abbrev GoesOn : ℕ → ℕ → Tok → List (ℕ × Tok) → Type 0
+GoesOn free p t ts = count_of t + indents ts ≤ free → (indents ts ≤ free_after t free → within (free_after t free) ts ≡ ts) → within free ((p, t) ∷ ts) ≡ (p, t) ∷ ts
 
-goes_on : (free p : ℕ) (t : Tok) (ts : List (ℕ × Tok)) → Goes_on free p t ts
+goes_on : (free p : ℕ) (t : Tok) (ts : List (ℕ × Tok)) → GoesOn free p t ts
 goes_on free p (Tok.name w) ts h more = ap (λ l. (p, Tok.name w) ∷ l) (more (omega arith))
 goes_on free p (Tok.str w) ts h more = ap (λ l. (p, Tok.str w) ∷ l) (more (omega arith))
 goes_on free p (Tok.int n) ts h more = ap (λ l. (p, Tok.int n) ∷ l) (more (omega arith))
