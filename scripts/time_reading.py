@@ -7,9 +7,9 @@ import sys
 import time
 
 root = pathlib.Path(__file__).parent.parent
-program = root / "target" / "bin" / "reading_cases"
+program = root / "crates" / "reading_cases" / "out" / "reading_cases"
 if not program.exists():
-    sys.exit("build it first: rt check reading_cases")
+    sys.exit("build it first: cd crates/reading_cases && rt run < stdin")
 COPIES = 500
 LINE = "value = first.part[index + 1] * (other - 2)\n"
 KINDS = {

@@ -3,8 +3,8 @@
 # so that what is left is its own work and not the start of a process.
 set -eu
 cd "$(dirname "$0")/.."
-program=target/bin/trace_lines
-[ -x "$program" ] || { echo "build it first: rt check trace_lines" >&2; exit 1; }
+program=crates/trace_lines/out/trace_lines
+[ -x "$program" ] || { echo "build it first: cd crates/trace_lines && rt run < stdin" >&2; exit 1; }
 runs=${1:-2000}
 folder=$(mktemp -d)
 trap 'rm -rf "$folder"' EXIT
