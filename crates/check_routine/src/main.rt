@@ -1,4 +1,6 @@
 // Tells the verdict on a routine: standard input is its source, standard output `number place`, `0 0` if it reads.
+#![tactic(auto)]
+
 use print_buffer::buffers::PrintBuffer;
 use source_check::checking::check_source;
 use std::io::{Read, Write};

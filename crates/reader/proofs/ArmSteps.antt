@@ -1,5 +1,5 @@
 -- How the arms of an `if` and the tests and blocks of loops are put together.
-use Rattle.std.proofs.Common.{◌≡◌, ℕ, ◌+◌, ◌*◌, ◌<◌, ◌≤◌, List, [], ◌∷◌, ◌++◌, length, drop, IsErrAnd, Some, Ok, Err, Result, sym, refl, ap, ◌∙◌, arith, length-append}
+use Rattle.std.proofs.Common.{◌≡◌, ℕ, List, [], ◌∷◌, ◌++◌, length, drop, Some, Ok, sym, refl, ap, ◌∙◌, arith, length-append}
 use mathlib.Core.Option.{none}
 use Rattle.arena.specs.Tables.{arena_limit, arena_nodes}
 use Rattle.arena.specs.Trees.{Phrase, phrase, spelled}
@@ -11,10 +11,8 @@ use Rattle.grammar.specs.Tree.{Arms, Stmt, Text, Token, at, mark_discrete}
 use Rattle.grammar.specs.Reader.{Body, State, add, arm_test, arms, base, each_of, eachs, either, expect, for_each, loop_test, loops, more, naming, other, seq, start, starts, want}
 use Rattle.grammar.specs.Profile.{Label, opening, plain}
 use Rattle.grammar.specs.Limits.{Reading, body_depth, declaring, exceeds, heads, is_it, label, limited, operand, proceeds}
-use Rattle.grammar.specs.Verdict.{judged}
 use Rattle.reader.specs.Feeds.{NextTold, coming, feed_source}
 use Rattle.reader.specs.Kinds.{mark_of}
-use Rattle.reader.specs.Leading.{Tells}
 use Rattle.reader.specs.Places.{AroundAt, ArmsAt, BodyAt, NestAt, TestAt, an_else, in_for, in_if, in_while, nest_end, nest_of, test_hole}
 use Rattle.reader.specs.Statements.{ArmTold, ArmsTold, GuardedTold}
 use Rattle.reader.specs.Taking.{Another}
@@ -22,12 +20,10 @@ use Rattle.reader.specs.declared.feeds.Feed.{Feed}
 use Rattle.reader.specs.declared.kinds.Kind.{Kind}
 use Rattle.reader.specs.declared.kinds.Mark.{Mark}
 use Rattle.reader.specs.declared.kinds.Next.{Next}
-use Rattle.reader.specs.declared.refusals.Stop.{Stop}
 use Rattle.reader.specs.declared.statements.Guarded.{Guarded}
-use Rattle.reader.proofs.Leading.{Along, along, along_as, along_stored, led_on, stepped, stopped_behind}
+use Rattle.reader.proofs.Leading.{Along, along, along_as, along_stored, led_on, stepped}
 use Rattle.reader.proofs.ListSteps.{stored_phrase}
 use Rattle.reader.proofs.Steps.{Passed, faced, passed, passed_long}
-use Rattle.reader.proofs.Storing.{kept_then}
 
 -- Where an `if` stands, its tests, and the block after its `else`.
 abbrev pub around : {d : ℕ} {ts : List Token} → BodyAt d ts → AroundAt d

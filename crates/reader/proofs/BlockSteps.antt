@@ -7,7 +7,7 @@ use Rattle.arena.specs.declared.arenas.Arena.{Arena}
 use Rattle.arena.specs.declared.nodes.Node.TheVariants.{MoreStatements, NoStatements}
 use Rattle.grammar.specs.Tree as tree
 use Rattle.grammar.specs.Tree.{Expr, Form, Stmt, Stmts, Token, at}
-use Rattle.grammar.specs.Reader.{Body, Offer, State, add, arms, base, block_of, decls, eachs, either, ends, have, locals, loops, main, on, other, pick, start, stmts, vars, want, when}
+use Rattle.grammar.specs.Reader.{Body, Offer, State, add, arms, base, block_of, decls, eachs, either, ends, have, locals, loops, main, on, other, pick, start, vars, want, when}
 use Rattle.grammar.specs.Limits.{Reading, body_depth, limited, proceeds}
 use Rattle.grammar.specs.Verdict.{judged}
 use Rattle.reader.specs.Feeds.{coming, feed_source}

@@ -5,9 +5,8 @@ use Rattle.arena.specs.Tables.{arena_nodes}
 use Rattle.arena.specs.declared.arenas.Arena.{Arena}
 use Rattle.grammar.specs.Tree as tree
 use Rattle.grammar.specs.Tree.{Ann, Decl, Decls, Id, Params, Stmt, Stmts, Token, at}
-use Rattle.grammar.specs.Reader.{Body, Outer, State, awaits, base, decls, ends, inside, join, locals, main, on, pick, start, stmts}
-use Rattle.grammar.specs.Limits.{Reading, frame_depth, heads, limited}
-use Rattle.grammar.specs.Profile.{Label, plain}
+use Rattle.grammar.specs.Reader.{Outer, State, awaits, base, decls, ends, inside, join, locals, main, on, pick, start}
+use Rattle.grammar.specs.Limits.{Reading, frame_depth, limited}
 use Rattle.grammar.specs.Verdict.{judged}
 use Rattle.reader.specs.Bodies.{DeclaredAt, ItemTold, past_item}
 use Rattle.reader.specs.Definitions.{OuterAt}

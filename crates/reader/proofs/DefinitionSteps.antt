@@ -1,18 +1,16 @@
 -- How the definitions of functions and classes are put together.
-use Rattle.std.proofs.Common.{◌≡◌, ℕ, ◌+◌, ◌*◌, ◌≤◌, List, [], ◌∷◌, length, Ok, Err, Result, sym, refl, ap, ◌∙◌, arith}
-use Rattle.arena.specs.Tables.{arena_nodes}
+use Rattle.std.proofs.Common.{◌≡◌, List, [], ◌∷◌, sym, refl}
 use Rattle.arena.specs.Trees.{spelled}
 use Rattle.arena.specs.declared.arenas.Arena.{Arena}
 use Rattle.arena.specs.declared.nodes.Stretch.{Stretch}
 use Rattle.grammar.specs.Tree as tree
 use Rattle.grammar.specs.Tree.{Decls, Token, at}
 use Rattle.grammar.specs.Reader.{Naming, State, calls, due, inner, naming, seq}
-use Rattle.grammar.specs.Limits.{Reading, limited}
+use Rattle.grammar.specs.Limits.{limited}
 use Rattle.grammar.specs.Verdict.{judged}
 use Rattle.reader.specs.Classes.{ClassAt}
 use Rattle.reader.specs.Feeds.{coming, feed_source}
 use Rattle.reader.specs.Kinds.{mark_of}
-use Rattle.reader.specs.Leading.{Tells}
 use Rattle.reader.specs.Stops.{stop_of}
 use Rattle.reader.specs.Taking.{NoMark, NoName}
 use Rattle.reader.specs.declared.feeds.Feed.{Feed}
@@ -21,7 +19,6 @@ use Rattle.reader.specs.declared.refusals.Stop.{Stop}
 use Rattle.reader.proofs.Leading.{Along, stepped}
 use Rattle.reader.proofs.Refusing.{no_mark_here, refused_here}
 use Rattle.reader.proofs.Steps.{Passed}
-use Rattle.reader.proofs.Storing.{kept_then}
 
 -- a name that must come was passed
 pub named_on : {X : Type 0} {f g : Feed} (n : Arena) (name : Stretch) (k : X → Naming) → Passed (at (tree.name (spelled (feed_source f) name)) name.at) f g

@@ -1,5 +1,5 @@
 -- The tokens of a lexer, one at hand.
-use Rattle.std.proofs.Common.{◌≡◌, ℕ, true, false, List, [], ◌∷◌, map, drop, is_some, Some, None, Option, sym, refl, ap, ◌∙◌, arith}
+use Rattle.std.proofs.Common.{◌≡◌, ℕ, true, false, List, drop, is_some, Some, None, Option, refl, arith}
 use Rattle.grammar.specs.Tree.{Token}
 use Rattle.reader.specs.Feeds.{with_next}
 use Rattle.reader.specs.declared.kinds.Next.{Next}

@@ -1,7 +1,7 @@
 -- How what is told at each place is put together.
-use Rattle.std.proofs.Common.{◌≡◌, ℕ, suc, ◌+◌, ◌*◌, ◌<◌, ◌≤◌, List, [], ◌∷◌, ◌++◌, length, IsErrAnd, Ok, Err, Result, sym, refl, ap, ◌∙◌, subst, arith, length-append}
+use Rattle.std.proofs.Common.{◌≡◌, ℕ, ◌+◌, ◌*◌, ◌<◌, ◌≤◌, List, [], ◌∷◌, ◌++◌, length, IsErrAnd, Ok, Err, Result, sym, ap, ◌∙◌, arith, length-append}
 use Rattle.arena.specs.Tables.{arena_limit, arena_nodes}
-use Rattle.arena.specs.Trees.{Phrase, over, phrase}
+use Rattle.arena.specs.Trees.{over, phrase}
 use Rattle.arena.specs.declared.arenas.Arena.{Arena}
 use Rattle.arena.specs.declared.nodes.Node.{Node}
 use Rattle.grammar.specs.Tree.{Token}
@@ -10,7 +10,7 @@ use Rattle.grammar.specs.Limits.{Reading, limited}
 use Rattle.grammar.specs.Verdict.{judged}
 use Rattle.reader.specs.Feeds.{coming, feed_source}
 use Rattle.reader.specs.Keeping.{Kept}
-use Rattle.reader.specs.Leading.{Leads, Takes, Tells}
+use Rattle.reader.specs.Leading.{Takes, Tells}
 use Rattle.reader.specs.Stops.{stop_of}
 use Rattle.reader.specs.declared.feeds.Feed.{Feed}
 use Rattle.reader.specs.declared.refusals.Stop.{Stop}

@@ -1,5 +1,5 @@
 -- How lines of targets and values are put together.
-use Rattle.std.proofs.Common.{◌≡◌, ℕ, ◌<◌, Bool, true, false, List, [], ◌∷◌, ◌++◌, length, drop, Ok, Err, Result, sym, refl, ap, ◌∙◌, subst, arith}
+use Rattle.std.proofs.Common.{◌≡◌, ℕ, ◌<◌, Bool, true, false, List, [], ◌∷◌, ◌++◌, length, drop, Ok, sym, refl, ap, ◌∙◌, subst, arith}
 use mathlib.Core.Option.{none}
 use Rattle.arena.specs.Tables.{arena_limit, arena_nodes}
 use Rattle.arena.specs.Trees.{Phrase, phrase}
@@ -8,14 +8,13 @@ use Rattle.arena.specs.declared.nodes.Node.{Node}
 use Rattle.grammar.specs.Tree as tree
 use Rattle.grammar.specs.Tree.{Expr, Exprs, Token, at}
 use Rattle.grammar.specs.Reader.{Body, Hole, Offer, State, begins, decls, either, ends, expect, have, leaves, line, on, only, pick, start, starts, stmts, vars, want, when}
-use Rattle.grammar.specs.Limits.{Reading, body_depth, exceeds, label, limited, operand, proceeds}
+use Rattle.grammar.specs.Limits.{body_depth, exceeds, label, limited, operand, proceeds}
 use Rattle.grammar.specs.Profile.{Label}
 use Rattle.grammar.specs.Verdict.{judged}
 use Rattle.reader.specs.Feeds.{coming, feed_source}
 use Rattle.reader.specs.Forms.{form_of, is_target}
 use Rattle.reader.specs.Keeping.{Kept}
 use Rattle.reader.specs.Kinds.{kind_model, next_token}
-use Rattle.reader.specs.Leading.{Tells}
 use Rattle.reader.specs.Lines.{AssignedTold, NoWord, Unassigned}
 use Rattle.reader.specs.Places.{LineAt}
 use Rattle.reader.specs.Stops.{stop_of}

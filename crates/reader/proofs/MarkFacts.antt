@@ -1,6 +1,6 @@
 -- The numbers of marks tell them apart.
-use Rattle.std.proofs.Common.{◌≡◌, ℕ, Bool, true, false, cond, eqb, List, [], ◌∷◌, get_or, sym, refl, ap, ◌∙◌, subst, arith, eq-eqb, eqb-true}
-use mathlib.Core.Option.{Option, none, some}
+use Rattle.std.proofs.Common.{◌≡◌, ℕ, Bool, true, false, cond, eqb, List, [], ◌∷◌, get_or, sym, refl, ap, ◌∙◌, arith, eq-eqb, eqb-true}
+use mathlib.Core.Option.{none, some}
 use Rattle.grammar.specs.Tree as tree
 use Rattle.grammar.specs.Tree.{at, mark_discrete}
 use Rattle.grammar.specs.Reader.{State, expect, given}

@@ -1,9 +1,8 @@
 -- How the limited machine takes parameters.
-use Rattle.std.proofs.Common.{◌≡◌, ℕ, List, [], ◌∷◌, sym, refl, ap, ◌∙◌}
-use mathlib.Core.Option.{none}
+use Rattle.std.proofs.Common.{◌≡◌, ℕ, List, [], ◌∷◌, sym, refl, ap}
 use Rattle.grammar.specs.Tree as tree
 use Rattle.grammar.specs.Tree.{Id, Params, Text, Token, at, id}
-use Rattle.grammar.specs.Reader.{Outer, State, calls, for_param, naming, of_param, seq, typing}
+use Rattle.grammar.specs.Reader.{State, calls, for_param, naming, of_param, seq, typing}
 use Rattle.grammar.specs.Limits.{limited}
 use Rattle.grammar.specs.Verdict.{judged}
 use Rattle.reader.specs.Parameters.{Header}

@@ -1,6 +1,6 @@
 -- A token that no program has here.
 use Rattle.std.proofs.Common.{◌≡◌, ℕ, List, [], ◌∷◌, sym, refl, ap, ◌∙◌}
-use mathlib.Core.Option.{Option, none}
+use mathlib.Core.Option.{none}
 use Rattle.grammar.specs.Tree.{Token}
 use Rattle.grammar.specs.Reader.{State, expect, step}
 use Rattle.grammar.specs.Limits.{exceeds, limited, proceeds, sees}

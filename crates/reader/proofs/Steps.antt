@@ -7,7 +7,7 @@ use Rattle.arena.specs.Tables.{arena_limit, arena_nodes, node_at}
 use Rattle.arena.specs.Trees.{over, phrase}
 use Rattle.arena.specs.declared.arenas.Arena.{Arena}
 use Rattle.arena.specs.declared.nodes.Node.{Node}
-use Rattle.grammar.specs.Tree.{Token, at, place}
+use Rattle.grammar.specs.Tree.{Token, at}
 use Rattle.grammar.specs.Reader.{Hole, State, have}
 use Rattle.grammar.specs.Limits.{hole_depth, limited}
 use Rattle.grammar.specs.Verdict.{judged}

@@ -1,10 +1,10 @@
 -- What a node that was just stored stands for, and what the reader keeps.
-use Rattle.std.proofs.Common.{◌≡◌, ℕ, ◌+◌, ◌*◌, ◌<◌, ◌≤◌, List, [], ◌∷◌, ◌++◌, length, drop, IsErrAnd, IfOk, Ok, Err, Result, sym, refl, ap, ◌∙◌, subst, append_assoc, arith, length-append}
+use Rattle.std.proofs.Common.{◌≡◌, ℕ, ◌+◌, ◌<◌, ◌≤◌, List, [], ◌∷◌, ◌++◌, length, drop, IsErrAnd, IfOk, Ok, Err, Result, sym, refl, ap, ◌∙◌, append_assoc, arith, length-append}
 use Rattle.std.proofs.lemmas.List.{append-nil, length-drop}
 use Rattle.arena.specs.declared.arenas.Arena.{Arena}
 use Rattle.arena.specs.declared.nodes.Node.{Node}
 use Rattle.arena.specs.Tables.{arena_limit, arena_nodes}
-use Rattle.arena.specs.Trees.{Phrase, over, phrase}
+use Rattle.arena.specs.Trees.{over, phrase}
 use Rattle.arena.proofs.Growth.{trees_stand}
 use Rattle.reader.specs.Feeds.{coming, feed_source}
 use Rattle.reader.specs.Keeping.{Kept}

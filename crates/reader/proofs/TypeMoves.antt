@@ -1,14 +1,14 @@
 -- How the limited machine takes the tokens of an annotation.
-use Rattle.std.proofs.Common.{◌≡◌, ℕ, suc, ◌<◌, ◌≤◌, Bool, true, false, leb, ◌⊎◌, List, [], ◌∷◌, sym, refl, ap, ◌∙◌, inl, inr, arith, leb-true}
-use mathlib.Core.Option.{Option, none, some}
+use Rattle.std.proofs.Common.{◌≡◌, ℕ, ◌<◌, false, leb, ◌⊎◌, List, [], ◌∷◌, sym, refl, ap, ◌∙◌, inl, inr, arith}
+use mathlib.Core.Option.{none}
 use Rattle.grammar.specs.Tree as tree
 use Rattle.grammar.specs.Tree.{Ann, Token, at}
 use Rattle.arena.specs.declared.nodes.BinaryOperator.{BinaryOperator}
-use Rattle.grammar.specs.Reader.{Slot, State, either, expect, of_item, quotes, typed, types, typing}
-use Rattle.grammar.specs.Limits.{Limit, levels, limited, proceeds, slot_depth, unless, when_true}
+use Rattle.grammar.specs.Reader.{Slot, either, of_item, quotes, typed, types, typing}
+use Rattle.grammar.specs.Limits.{levels, limited, proceeds, slot_depth, unless, when_true}
 use Rattle.grammar.specs.Verdict.{judged}
 use Rattle.lexis.specs.declared.faults.Fault.{Fault}
-use Rattle.reader.specs.Kinds.{constant_of, kind_model, mark_of}
+use Rattle.reader.specs.Kinds.{constant_of, kind_model}
 use Rattle.reader.specs.Stops.{stop_of}
 use Rattle.reader.specs.Taking.{NoMark}
 use Rattle.reader.specs.declared.kinds.Constant.{Constant}

@@ -1,17 +1,15 @@
 -- How the limited machine takes a variable's definition, past its name and colon.
-use Rattle.std.proofs.Common.{◌≡◌, ℕ, List, [], ◌∷◌, Ok, Err, sym, refl, ap, ◌∙◌}
+use Rattle.std.proofs.Common.{◌≡◌, ℕ, List, [], ◌∷◌, sym, refl, ap}
 use mathlib.Core.Option.{none}
-use Rattle.arena.specs.declared.nodes.Node.{Node}
-use Rattle.arena.specs.Trees.{phrase}
 use Rattle.grammar.specs.Tree as tree
 use Rattle.grammar.specs.Tree.{Ann, Id, Token, at}
-use Rattle.grammar.specs.Reader.{Outer, State, awaits, either, join, of_var, seq, step, typed, typing, value_of}
-use Rattle.grammar.specs.Limits.{limited, proceeds}
+use Rattle.grammar.specs.Reader.{Outer, State, awaits, either, join, of_var, seq, typed, value_of}
+use Rattle.grammar.specs.Limits.{limited}
 use Rattle.grammar.specs.Verdict.{judged}
 use Rattle.reader.specs.Definitions.{NoLiteral, OuterAt}
 use Rattle.reader.specs.Stops.{stop_of}
 use Rattle.reader.specs.Taking.{NoMark}
-use Rattle.reader.specs.Types.{SlotAt, TypeTells}
+use Rattle.reader.specs.Types.{SlotAt}
 use Rattle.reader.specs.declared.kinds.Mark.{Mark}
 use Rattle.reader.specs.declared.refusals.Stop.{Stop}
 use Rattle.reader.proofs.Refusing.{no_mark_here, refused_here}

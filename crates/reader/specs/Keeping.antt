@@ -1,5 +1,5 @@
 -- What every function of the reader keeps: the source, the nodes stored so far, and the table's room.
-use Rattle.std.specs.Prelude.{◌≡◌, ℕ, ◌+◌, ◌*◌, ◌≤◌, List, ◌++◌, length}
+use Rattle.std.specs.Prelude.{◌≡◌, ◌+◌, ◌*◌, ◌≤◌, List, ◌++◌, length}
 use Rattle.arena.specs.declared.arenas.Arena.{Arena}
 use Rattle.arena.specs.declared.nodes.Node.{Node}
 use Rattle.arena.specs.Tables.{arena_limit, arena_nodes}

@@ -1,13 +1,12 @@
 -- What is told of lists of expressions in brackets, whatever the list is for.
-use Rattle.std.specs.Prelude.{◌≡◌, ℕ, suc, ◌<◌, Bool, true, false, List, [], ◌∷◌, length, Ok, Err, Result}
-use Rattle.std.proofs.Math.Option.{none}
+use Rattle.std.specs.Prelude.{◌≡◌, ℕ, suc, ◌<◌, List, [], ◌∷◌, length, Ok, Err, Result}
 use Rattle.arena.specs.declared.arenas.Arena.{Arena}
 use Rattle.arena.specs.declared.nodes.Node.{Node}
 use Rattle.arena.specs.Tables.{arena_nodes}
 use Rattle.arena.specs.Trees.{phrase}
 use Rattle.grammar.specs.Tree as tree
 use Rattle.grammar.specs.Tree.{Exprs, Token, at}
-use Rattle.grammar.specs.Reader.{Group, Hole, State, build, closer, expect, from, group, have, on, pick, want}
+use Rattle.grammar.specs.Reader.{Group, Hole, build, closer, from, group, have, on, pick, want}
 use Rattle.grammar.specs.Limits.{Reading, exceeds, hole_depth, label, limited, no_label, proceeds, unfinished}
 use Rattle.grammar.specs.Profile.{plain}
 use Rattle.grammar.specs.Verdict.{judged}

@@ -4,8 +4,7 @@ use Rattle.std.proofs.Math.Option.{none}
 use Rattle.grammar.specs.Tree as tree
 use Rattle.grammar.specs.Tree.{Arms, Expr, Stmt, Stmts, Text, Token}
 use Rattle.grammar.specs.Reader.{Body, Hole, State, add, arm_test, arms, decls, each_of, eachs, ends, loop_test, loops, more, on, other, pick, start, vars}
-use Rattle.grammar.specs.Limits.{body_depth, declaring, depth}
-use Rattle.grammar.specs.Profile.{plain}
+use Rattle.grammar.specs.Limits.{body_depth, depth}
 use Rattle.reader.specs.Kinds.{mark_of}
 use Rattle.reader.specs.declared.kinds.Mark.{Mark}
 

@@ -1,5 +1,5 @@
 -- What is told where a mark or a name must come.
-use Rattle.std.specs.Prelude.{◌≡◌, ℕ, Bool, true, false, List, [], ◌∷◌, drop, Some, None, Ok, Err, Option, Result}
+use Rattle.std.specs.Prelude.{◌≡◌, ℕ, Bool, true, false, List, [], ◌∷◌, Some, None, Ok, Err, Option, Result}
 use Rattle.std.proofs.Math.Option.{none}
 use Rattle.arena.specs.declared.nodes.Stretch.{Stretch}
 use Rattle.arena.specs.Trees.{spelled}

@@ -1,4 +1,6 @@
 // Reading a routine into a table of nodes, by functions that call each other.
+#![tactic(auto)]
+
 pub mod answers;
 mod bodies;
 mod classes;

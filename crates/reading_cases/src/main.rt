@@ -1,5 +1,7 @@
 // Tells the verdicts on many sources: standard input has them one after the other, each behind its length in two bytes,
 // the high one first; standard output is a line `number place` for each.
+#![tactic(auto)]
+
 mod framing;
 
 use framing::next_source;

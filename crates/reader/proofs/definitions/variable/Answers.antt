@@ -1,4 +1,4 @@
-use Rattle.std.proofs.Common.{◌≡◌, ℕ, List, [], ◌∷◌, length, Ok, Err, sym, refl, ap, ◌∙◌, subst, arith, length-append}
+use Rattle.std.proofs.Common.{◌≡◌, length, Ok, Err, sym, refl, ap, ◌∙◌, subst, arith, length-append}
 use Rattle.std.proofs.lemmas.Result.{err_from_is_err_and}
 use Rattle.arena.specs.Tables.{arena_nodes}
 use Rattle.arena.specs.Trees.{Phrase, literal_of, named, phrase}
@@ -6,7 +6,7 @@ use Rattle.grammar.specs.Tree as tree
 use Rattle.grammar.specs.Reader.{awaits, join}
 use Rattle.grammar.specs.Limits.{limited}
 use Rattle.grammar.specs.Verdict.{judged}
-use Rattle.reader.specs.Definitions.{LiteralTold, OuterAt, VariableTells}
+use Rattle.reader.specs.Definitions.{LiteralTold, VariableTells}
 use Rattle.reader.specs.Feeds.{coming, feed_source}
 use Rattle.reader.proofs.Storing.{kept_one, kept_taken, kept_then, shorter, stored, unmade}
 use Rattle.reader.proofs.VariableMoves.{assigned, line_ends, no_line_end, unassigned, unvalued, valued, var_slot}

@@ -2,7 +2,6 @@ use Rattle.std.proofs.Common.{◌+◌, ◌-◌, ◌*◌, length}
 use Rattle.arena.specs.Trees.{binary_of}
 use Rattle.grammar.specs.Tree as tree
 use Rattle.reader.specs.Feeds.{coming}
-use Rattle.reader.specs.Lists.{Within}
 use Rattle.reader.specs.Told.{Spot}
 use Rattle.reader.proofs.Steps.{Grew}
 use Rattle.reader.proofs.ListSteps.{Listing}

@@ -1,4 +1,4 @@
-use Rattle.std.proofs.Common.{◌≡◌, [], ◌∷◌, sym, refl, ap, ◌∙◌, arith}
+use Rattle.std.proofs.Common.{[], sym, refl, ap, arith}
 use Rattle.arena.specs.Trees.{Phrase}
 use Rattle.arena.specs.declared.nodes.Node.{Node}
 use Rattle.grammar.specs.Tree as tree
@@ -9,7 +9,7 @@ use Rattle.reader.specs.Feeds.{coming, feed_source}
 use Rattle.reader.specs.Places.{BodyAt}
 use Rattle.reader.specs.declared.kinds.Kind.{Kind}
 use Rattle.reader.specs.declared.kinds.Mark.{Mark}
-use Rattle.reader.proofs.Leading.{Along, along, stepped, stopped_behind, told_stored}
+use Rattle.reader.proofs.Leading.{along, stepped, stopped_behind, told_stored}
 use Rattle.reader.proofs.Steps.{Passed, faced, kept_still, passed, passed_long}
 use Rattle.reader.proofs.VariableMoves.{no_line_end}
 use Rattle.reader.proofs.lines.pass_line.Goals as goal

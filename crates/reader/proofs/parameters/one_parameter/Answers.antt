@@ -1,9 +1,8 @@
-use Rattle.std.proofs.Common.{◌≡◌, ℕ, List, [], ◌∷◌, length, Ok, Err, sym, refl, ap, ◌∙◌, subst, arith}
+use Rattle.std.proofs.Common.{◌≡◌, length, Ok, Err, sym, ap, ◌∙◌, subst, arith}
 use Rattle.std.proofs.lemmas.Result.{err_from_is_err_and}
 use Rattle.arena.specs.Tables.{arena_nodes}
-use Rattle.arena.specs.Trees.{named, phrase, spelled}
-use Rattle.grammar.specs.Reader.{of_param, typed, typing}
-use Rattle.grammar.specs.Limits.{limited}
+use Rattle.arena.specs.Trees.{named, spelled}
+use Rattle.grammar.specs.Reader.{of_param, typing}
 use Rattle.grammar.specs.Verdict.{judged}
 use Rattle.reader.specs.Feeds.{coming, feed_source}
 use Rattle.reader.specs.Parameters.{ParameterTells}

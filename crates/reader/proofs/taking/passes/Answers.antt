@@ -1,4 +1,4 @@
-use Rattle.std.proofs.Common.{◌≡◌, ℕ, List, is_some, Some, None, Option, sym, subst}
+use Rattle.std.proofs.Common.{ℕ, List, is_some, Some, None, Option, sym, subst}
 use Rattle.grammar.specs.Tree.{Token}
 use Rattle.reader.specs.Feeds.{coming}
 use Rattle.reader.specs.Taking.{CameTold, PassTold}

@@ -1,4 +1,4 @@
-use Rattle.std.proofs.Common.{◌≡◌, List, ◌∷◌, drop, sym, refl, ap, ◌∙◌, subst, arith, rules}
+use Rattle.std.proofs.Common.{◌∷◌, drop, sym, refl, ap, ◌∙◌, subst, arith, rules}
 use Rattle.grammar.specs.Tree as tree
 use Rattle.grammar.specs.Tree.{at}
 use Rattle.reader.specs.Feeds.{coming, feed_source}

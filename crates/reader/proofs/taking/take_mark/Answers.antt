@@ -1,8 +1,8 @@
-use Rattle.std.proofs.Common.{◌≡◌, ℕ, List, ◌∷◌, drop, sym, refl, ap, ◌∙◌, subst, arith, rules}
+use Rattle.std.proofs.Common.{◌∷◌, drop, sym, refl, ap, ◌∙◌, subst, arith, rules}
 use Rattle.grammar.specs.Tree as tree
 use Rattle.grammar.specs.Tree.{Token, at}
 use Rattle.reader.specs.Feeds.{coming, feed_source}
-use Rattle.reader.specs.Kinds.{kind_model, mark_of}
+use Rattle.reader.specs.Kinds.{mark_of}
 use Rattle.reader.specs.Taking.{NoMark}
 use Rattle.reader.proofs.MarkFacts.{marked, unmarked}
 use Rattle.reader.proofs.taking.take_mark.Goals as goal

@@ -1,6 +1,6 @@
-use Rattle.std.proofs.Common.{◌≡◌, ◌∷◌, drop, sym, ap, ◌∙◌}
+use Rattle.std.proofs.Common.{◌∷◌, sym, ◌∙◌}
 use Rattle.grammar.specs.Tree.{at}
-use Rattle.reader.specs.Feeds.{coming, feed_source}
+use Rattle.reader.specs.Feeds.{feed_source}
 use Rattle.reader.specs.Kinds.{kind_model}
 use Rattle.reader.proofs.taking.take_name.Goals as goal
 

@@ -1,8 +1,7 @@
-use Rattle.std.proofs.Common.{◌≡◌, ℕ, ◌+◌, ◌<◌, ◌≤◌, List, [], ◌∷◌, ◌++◌, length, drop, Ok, Err, sym, refl, ap, ◌∙◌, subst, arith, rules}
+use Rattle.std.proofs.Common.{◌≡◌, ℕ, ◌+◌, ◌<◌, List, ◌∷◌, length, drop, Ok, Err, sym, refl, ap, ◌∙◌, subst, arith}
 use Rattle.arena.specs.declared.nodes.Node.{Node}
 use Rattle.arena.specs.Tables.{arena_nodes}
 use Rattle.arena.specs.Trees.{Phrase, phrase}
-use Rattle.grammar.specs.Tree as tree
 use Rattle.grammar.specs.Tree.{Token, at}
 use Rattle.std.proofs.lemmas.Result.{err_from_is_err_and}
 use Rattle.grammar.specs.Reader.{of_item, typed, typing}

@@ -1,4 +1,4 @@
-use Rattle.std.proofs.Common.{[], ◌∷◌, ◌++◌, length, append_assoc, arith, length-append, rules}
+use Rattle.std.proofs.Common.{[], ◌∷◌, ◌++◌, append_assoc, arith, length-append}
 use Rattle.numeral.proofs.NumeralFacts.{length_numeral}
 use Rattle.numeral.specs.Numerals.{numeral}
 use Rattle.print_buffer.specs.Buffers.{buffer_bytes}

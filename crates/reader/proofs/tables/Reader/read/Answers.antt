@@ -1,4 +1,4 @@
-use Rattle.std.proofs.Common.{◌≡◌, sym, ◌∙◌}
+use Rattle.std.proofs.Common.{sym, ◌∙◌}
 use Rattle.arena.specs.Tables.{arena_nodes}
 use Rattle.reader.proofs.Sources.{answer_holds, emptied_left, refusal_same, routine_left}
 use Rattle.reader.proofs.tables.Reader.read.Goals as goal
