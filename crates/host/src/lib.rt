@@ -4,6 +4,7 @@
 pub mod admission;
 pub mod checks;
 pub mod choices;
+pub mod formats;
 pub mod hosts;
 pub mod quotas;
 pub mod refusals;

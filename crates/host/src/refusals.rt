@@ -6,11 +6,11 @@ ghost use Rattle.host.specs.Calls.{refusal_number};
 #[derive(Clone, Copy, PartialEq, Eq, Debug)]
 pub enum Refusal {
     // No line waits.
-    NoLine,
+    NoLine = 31,
     // The spare is under the line's length and one.
-    NoSpare,
+    NoSpare = 32,
     // The line is over 255 bytes, or longer than the place for it.
-    TooLong,
+    TooLong = 33,
 }
 
 impl Refusal {
@@ -18,10 +18,6 @@ impl Refusal {
     pub fn number(self) -> u8
         ensures { result ≡ refusal_number self }
     {
-        match self {
-            Refusal::NoLine => 31,
-            Refusal::NoSpare => 32,
-            Refusal::TooLong => 33,
-        }
+        self as u8
     }
 }

@@ -1,62 +1,95 @@
 -- The lines of a text, cut one by one.
-use Rattle.std.proofs.Common.{◌≡◌, ℕ, zero, suc, ◌+◌, ◌<◌, ◌≤◌, Bool, true, false, cond, eqb, ltb, List, [], ◌∷◌, length, take, drop, refl, ◌∙◌, add-one, arith}
-use Rattle.text_host.specs.Lines.{lines_of}
+use Rattle.std.proofs.Common.{◌≡◌, ℕ, zero, suc, ◌+◌, ◌<◌, ◌≤◌, Bool, true, cond, eqb, nat_le, List, [], ◌∷◌, length, take, drop, refl, sym, ap, ◌∙◌, arith, length-take}
+use Rattle.std.specs.List.{list_all, onto_first, position, position_or_len, slice_split}
+use Rattle.std.specs.Option.{unwrap_or}
+use Rattle.std.proofs.lemmas.List.Recursion.{is_position_or_len}
+use Rattle.std.proofs.lemmas.List.Splits.{length-slice_split}
+use Rattle.text_host.specs.Lines.{is_feed, joined_to, lines_of}
+use Rattle.text_host.specs.Texts.{text_flaw}
 use Rattle.host.specs.Meaning.{Bounded, short_lines}
+use Rattle.host.specs.Sound.{empty_or_sound}
 
 -- how many bytes stand before the first line feed, or in all
-abbrev pub until_feed : List ℕ → ℕ
+abbrev until_feed : List ℕ → ℕ
 until_feed [] = 0
 until_feed (b ∷ bs) = cond (eqb b 10) 0 (suc (until_feed bs))
 
--- whether no line is over 255 bytes, where n bytes of the first one are read already
-abbrev pub short_run : ℕ → List ℕ → Bool
-short_run n [] = true
-short_run n (b ∷ bs) = cond (eqb b 10) (short_run 0 bs) (cond (ltb n 255) (short_run (suc n) bs) false)
-
-pub until_feed_le : (xs : List ℕ) → until_feed xs ≤ length xs
+until_feed_le : (xs : List ℕ) → until_feed xs ≤ length xs
 until_feed_le [] = omega arith
 until_feed_le (b ∷ bs) = let h = until_feed_le bs in grind arith
 
 -- a text that is not empty is its first line, and the lines after that and its line feed
-pub lines_split : (b : ℕ) (bs : List ℕ) → lines_of (b ∷ bs) ≡ take (until_feed (b ∷ bs)) (b ∷ bs) ∷ lines_of (drop (suc (until_feed (b ∷ bs))) (b ∷ bs))
+lines_split : (b : ℕ) (bs : List ℕ) → lines_of (b ∷ bs) ≡ take (until_feed (b ∷ bs)) (b ∷ bs) ∷ lines_of (drop (suc (until_feed (b ∷ bs))) (b ∷ bs))
 lines_split b [] = grind arith
 lines_split b (x ∷ xs) = let h = lines_split x xs in grind arith
 
--- the first of some lines, after n bytes of it, and the others
-abbrev pub short_after : ℕ → List (List ℕ) → Bool
-short_after n [] = true
-short_after n (l ∷ ls) = cond (ltb 255 (n + length l)) false (short_lines ls)
+lines_rest : (ys : List ℕ) (n : ℕ) → n ≡ until_feed ys → 0 < length ys → lines_of ys ≡ take n ys ∷ lines_of (drop (length (take n ys) + 1) ys)
+lines_rest [] n e h = absurd (omega arith)
+lines_rest (b ∷ bs) n e h =
+    let within = until_feed_le (b ∷ bs) in
+    let cut = lines_split b bs in
+    let taken : length (take n (b ∷ bs)) + 1 ≡ suc (until_feed (b ∷ bs)) = omega (arith, length-take n (b ∷ bs)) in
+    rw (taken, e) cut
 
-short_after_none : (ls : List (List ℕ)) → short_after 0 ls ≡ short_lines ls
-short_after_none [] = refl
-short_after_none (l ∷ ls) = grind arith
+-- the bytes up to the first line feed are the first line
+pub first_taken : (ys : List ℕ) (n : ℕ) → n ≡ unwrap_or (position is_feed ys) (length ys) → 0 < length ys → lines_of ys ≡ take n ys ∷ lines_of (drop (length (take n ys) + 1) ys)
+first_taken ys n e h =
+    let at : until_feed ys ≡ position_or_len is_feed ys = is_position_or_len until_feed is_feed refl (λ x xs. grind arith) ys in
+    let within = until_feed_le ys in
+    lines_rest ys n (grind arith) h
 
-pub short_run_is : (n : ℕ) (xs : List ℕ) → n ≤ 255 → short_run n xs ≡ short_after n (lines_of xs)
-short_run_is n [] h = refl
-short_run_is n (b ∷ bs) h =
-    let ends = short_run_is 0 bs (omega arith) ∙ short_after_none (lines_of bs) in
-    let goes : n < 255 → short_run (suc n) bs ≡ short_after (suc n) (lines_of bs) = λ p. short_run_is (suc n) bs (omega arith) in
+-- the parts between line feeds without an empty last one
+abbrev trimmed : List (List ℕ) → List (List ℕ)
+trimmed [] = []
+trimmed ([] ∷ []) = []
+trimmed ((b ∷ l) ∷ []) = (b ∷ l) ∷ []
+trimmed (l ∷ k ∷ ls) = l ∷ trimmed (k ∷ ls)
+
+trimmed_fed : (ls : List (List ℕ)) → 0 < length ls → trimmed ([] ∷ ls) ≡ [] ∷ trimmed ls
+trimmed_fed [] h = absurd (omega arith)
+trimmed_fed (l ∷ ls) h = refl
+
+trimmed_onto : (b : ℕ) (ls : List (List ℕ)) → trimmed (onto_first b ls) ≡ joined_to b (trimmed ls)
+trimmed_onto b [] = refl
+trimmed_onto b ([] ∷ []) = refl
+trimmed_onto b ((x ∷ l) ∷ []) = refl
+trimmed_onto b (l ∷ k ∷ ls) = grind arith
+
+lines_trimmed : (bs : List ℕ) → lines_of bs ≡ trimmed (slice_split is_feed bs)
+lines_trimmed [] = refl
+lines_trimmed (b ∷ bs) =
+    let h = lines_trimmed bs in
+    let n = length-slice_split is_feed bs in
+    let fed = trimmed_fed (slice_split is_feed bs) (omega arith) in
+    let onto = trimmed_onto b (slice_split is_feed bs) in
     grind arith
 
+abbrev pub is_short : List ℕ → Bool
+is_short l = nat_le (length l) 255
+
+short_trimmed : (ls : List (List ℕ)) → list_all is_short ls ≡ short_lines (trimmed ls)
+short_trimmed [] = refl
+short_trimmed ([] ∷ []) = refl
+short_trimmed ((b ∷ l) ∷ []) = grind arith
+short_trimmed (l ∷ k ∷ ls) = let h = short_trimmed (k ∷ ls) in grind arith
+
 -- the test of the code is the one that the contract states
-pub short_is : (xs : List ℕ) → short_run 0 xs ≡ short_lines (lines_of xs)
-short_is xs = short_run_is 0 xs (omega arith) ∙ short_after_none (lines_of xs)
+pub short_is : (bs : List ℕ) → list_all is_short (slice_split is_feed bs) ≡ short_lines (lines_of bs)
+short_is bs = short_trimmed (slice_split is_feed bs) ∙ ap short_lines (sym (lines_trimmed bs))
 
 bounded_tail : (b : ℕ) (bs : List ℕ) → Bounded (lines_of (b ∷ bs)) → Bounded (lines_of bs)
 bounded_tail b bs h = grind arith
 
 -- the lines from any place on are short too
-pub bounded_drop : (n : ℕ) (xs : List ℕ) → Bounded (lines_of xs) → Bounded (lines_of (drop n xs))
+bounded_drop : (n : ℕ) (xs : List ℕ) → Bounded (lines_of xs) → Bounded (lines_of (drop n xs))
 bounded_drop zero xs h = h
 bounded_drop (suc n) [] h = h
 bounded_drop (suc n) (b ∷ bs) h = bounded_drop n bs (bounded_tail b bs h)
 
--- a text that is not empty, cut after its first line
-pub lines_rest : (ys : List ℕ) → 0 < length ys → lines_of ys ≡ take (until_feed ys) ys ∷ lines_of (drop (until_feed ys + 1) ys)
-lines_rest [] h = absurd (omega arith)
-lines_rest (b ∷ bs) h = rw add-one (lines_split b bs)
+sound_bounded : (xs : List ℕ) → empty_or_sound text_flaw xs ≡ true → Bounded (lines_of xs)
+sound_bounded [] h = refl
+sound_bounded (b ∷ bs) h = grind arith
 
--- no bytes, no lines
-pub lines_none : (ys : List ℕ) → length ys ≡ 0 → lines_of ys ≡ []
-lines_none [] h = refl
-lines_none (b ∷ bs) h = absurd (omega arith)
+-- so are those of a checked text
+pub checked_bounded : (n : ℕ) (xs : List ℕ) → empty_or_sound text_flaw xs ≡ true → Bounded (lines_of (drop n xs))
+checked_bounded n xs h = bounded_drop n xs (sound_bounded xs h)

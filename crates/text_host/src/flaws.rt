@@ -5,7 +5,7 @@ ghost use Rattle.text_host.specs.Texts.{flaw_number};
 #[derive(Clone, Copy, PartialEq, Eq, Debug)]
 pub enum TextFlaw {
     // A line is over 255 bytes.
-    LongLine,
+    LongLine = 64,
 }
 
 impl TextFlaw {
@@ -13,8 +13,6 @@ impl TextFlaw {
     pub fn number(self) -> u8
         ensures { result ≡ flaw_number self }
     {
-        match self {
-            TextFlaw::LongLine => 64,
-        }
+        self as u8
     }
 }

@@ -1,7 +1,7 @@
 // The text host.
 ghost use Rattle.std.specs.Prelude.{◌≡◌};
 ghost use Rattle.print_buffer.specs.Buffers.{buffer_bytes, buffer_room};
-ghost use Rattle.text_host.specs.HostMeaning.{text_bytes, text_meaning};
+ghost use Rattle.text_host.specs.HostMeaning.{text_meaning};
 ghost use Rattle.text_host.specs.Lines.{lines_of};
 
 use crate::checked::CheckedText;
@@ -15,14 +15,14 @@ use print_buffer::buffers::PrintBuffer;
 #[derive(Drop)]
 pub struct TextHost {
     text: CheckedText,
-    // where the first line that waits begins
+    // where the first line that waits begins: a place and not the slice from there, since the host owns its text
     at: usize,
     out: PrintBuffer,
 }
 
 impl TextHost {
     pub fn new(text: CheckedText, out: PrintBuffer) -> TextHost
-        ensures { text_meaning result ≡ record { lines = lines_of (text_bytes text); printed = buffer_bytes out; spare = buffer_room out } }
+        ensures { text_meaning result ≡ record { lines = lines_of text; printed = buffer_bytes out; spare = buffer_room out } }
     {
         TextHost { text, at: 0, out }
     }
@@ -39,10 +39,7 @@ impl Host for TextHost {
     ghost meaning = { text_meaning };
 
     fn waits(&self) -> Option<usize> {
-        match line_from(self.text.bytes(), self.at) {
-            Some(line) => Some(line.len()),
-            None => None,
-        }
+        line_from(self.text.bytes(), self.at).map(|line| line.len())
     }
 
     fn spare(&self) -> usize {
@@ -50,9 +47,7 @@ impl Host for TextHost {
     }
 
     fn take(&mut self, place: &mut [u8]) -> Result<usize, Refusal> {
-        let Some(line) = line_from(self.text.bytes(), self.at) else {
-            return Err(Refusal::NoLine);
-        };
+        let line = line_from(self.text.bytes(), self.at).ok_or(Refusal::NoLine)?;
         let length = line.len();
         if place.len() < length {
             return Err(Refusal::TooLong);

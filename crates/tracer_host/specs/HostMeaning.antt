@@ -1,15 +1,15 @@
 -- What a tracer host means.
-use Rattle.std.specs.Prelude.{ℕ, List, [], drop, vec_items}
+use Rattle.std.specs.Prelude.{ℕ, List, [], drop}
 use Rattle.host.specs.Meaning.{Meaning}
 use Rattle.print_buffer.specs.Buffers.{buffer_bytes, buffer_room}
-use Rattle.tracer_host.specs.declared.checked.CheckedTrace.{CheckedTrace}
 use Rattle.tracer_host.specs.declared.frame_buffers.FrameBuffer.{FrameBuffer}
 use Rattle.tracer_host.specs.declared.hosts.TracerHost.{TracerHost}
 use Rattle.tracer_host.specs.Frames.{unframed}
 use Rattle.tracer_host.specs.Traces.{radius_lines}
 
-abbrev pub trace_bytes : CheckedTrace → List ℕ
-trace_bytes t = vec_items t.bytes
+-- a checked trace, in contracts, is its bytes
+abbrev pub trace_bytes : List ℕ → List ℕ
+trace_bytes t = t
 
 abbrev pub frame_bytes : FrameBuffer → List ℕ
 frame_bytes b = buffer_bytes b.buffer
@@ -32,7 +32,7 @@ tracer_frames h = frame_bytes h.out
 
 abbrev pub tracer_meaning : TracerHost → Meaning
 tracer_meaning h = record {
-  lines = radius_lines (drop h.at (trace_bytes h.trace));
+  lines = radius_lines (drop h.at h.trace);
   printed = lines_printed h.out;
   spare = frame_room h.out;
 }

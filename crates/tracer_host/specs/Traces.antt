@@ -1,6 +1,6 @@
 -- A trace file: the mark `RAD`, the version 1, a count, and that many radii, in hundredths of a millimetre; each of
 -- these but the mark is a 16-bit number, high byte first.
-use Rattle.std.specs.Prelude.{ℕ, ◌+◌, ◌*◌, Bool, true, false, cond, ◌&&◌, List, [], ◌∷◌, map, length, Some, None, Option, ◌==◌, nat_le, slice_index}
+use Rattle.std.specs.Prelude.{ℕ, ◌+◌, ◌*◌, Bool, cond, ◌&&◌, List, [], ◌∷◌, map, length, Some, None, Option, ◌==◌, nat_le, slice_index}
 use Rattle.numeral.specs.Numerals.{numeral}
 use Rattle.tracer_host.specs.declared.flaws.TraceFlaw.{TraceFlaw}
 use Rattle.tracer_host.specs.declared.flaws.TraceFlaw.TheVariants.{Mark, Version, Length}
@@ -27,15 +27,6 @@ trace_flaw bs =
     (cond (length bs == 7 + 2 * word_at bs 5) None (Some Length))
     (Some Version))
     (Some Mark)
-
-abbrev pub is_none : {F : Type 0} → Option F → Bool
-is_none None = true
-is_none (Some f) = false
-
--- no bytes, or a file without a flaw
-abbrev pub empty_or_sound : List ℕ → Bool
-empty_or_sound [] = true
-empty_or_sound (b ∷ bs) = is_none (trace_flaw (b ∷ bs))
 
 -- the 16-bit numbers of some bytes
 abbrev pub radii_of : List ℕ → List ℕ

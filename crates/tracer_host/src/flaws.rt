@@ -5,11 +5,11 @@ ghost use Rattle.tracer_host.specs.Traces.{flaw_number};
 #[derive(Clone, Copy, PartialEq, Eq, Debug)]
 pub enum TraceFlaw {
     // It is under 7 bytes, or does not begin with the mark `RAD`.
-    Mark,
+    Mark = 61,
     // It is of another version than 1.
-    Version,
+    Version = 62,
     // It is not as long as its count says.
-    Length,
+    Length = 63,
 }
 
 impl TraceFlaw {
@@ -17,10 +17,6 @@ impl TraceFlaw {
     pub fn number(self) -> u8
         ensures { result ≡ flaw_number self }
     {
-        match self {
-            TraceFlaw::Mark => 61,
-            TraceFlaw::Version => 62,
-            TraceFlaw::Length => 63,
-        }
+        self as u8
     }
 }

@@ -1,6 +1,6 @@
 // The tracer host.
 ghost use Rattle.std.specs.Prelude.{◌≡◌, drop};
-ghost use Rattle.tracer_host.specs.HostMeaning.{frame_room, lines_printed, trace_bytes, tracer_frames, tracer_meaning};
+ghost use Rattle.tracer_host.specs.HostMeaning.{frame_room, lines_printed, tracer_frames, tracer_meaning};
 ghost use Rattle.tracer_host.specs.Traces.{radius_lines};
 
 use crate::checked::CheckedTrace;
@@ -18,14 +18,15 @@ const FIRST_RADIUS: usize = 7;
 #[derive(Drop)]
 pub struct TracerHost {
     trace: CheckedTrace,
-    // where the bytes of the first radius that waits begin
+    // where the bytes of the first radius that waits begin: a place and not the slice from there, since the host owns
+    // its trace
     at: usize,
     out: FrameBuffer,
 }
 
 impl TracerHost {
     pub fn new(trace: CheckedTrace, out: FrameBuffer) -> TracerHost
-        ensures { tracer_meaning result ≡ record { lines = radius_lines (drop 7 (trace_bytes trace)); printed = lines_printed out; spare = frame_room out } }
+        ensures { tracer_meaning result ≡ record { lines = radius_lines (drop 7 trace); printed = lines_printed out; spare = frame_room out } }
     {
         TracerHost {
             trace,
@@ -46,9 +47,7 @@ impl Host for TracerHost {
     ghost meaning = { tracer_meaning };
 
     fn waits(&self) -> Option<usize> {
-        let Some(radius) = radius_at(self.trace.bytes(), self.at) else {
-            return None;
-        };
+        let radius = radius_at(self.trace.bytes(), self.at)?;
         let mut place = [0; LONGEST_NUMERAL];
         write_numeral(u32::from(radius), &mut place).ok()
     }
@@ -58,16 +57,10 @@ impl Host for TracerHost {
     }
 
     fn take(&mut self, place: &mut [u8]) -> Result<usize, Refusal> {
-        let Some(radius) = radius_at(self.trace.bytes(), self.at) else {
-            return Err(Refusal::NoLine);
-        };
-        match write_numeral(u32::from(radius), place) {
-            Ok(length) => {
-                self.at += 2;
-                Ok(length)
-            }
-            Err(_) => Err(Refusal::TooLong),
-        }
+        let radius = radius_at(self.trace.bytes(), self.at).ok_or(Refusal::NoLine)?;
+        let length = write_numeral(u32::from(radius), place).map_err(|_| Refusal::TooLong)?;
+        self.at += 2;
+        Ok(length)
     }
 
     fn put(&mut self, line: &[u8]) -> Result<(), Refusal> {

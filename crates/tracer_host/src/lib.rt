@@ -2,7 +2,6 @@
 #![tactic(auto)]
 
 pub mod checked;
-pub mod checks;
 pub mod flaws;
 pub mod frame_buffers;
 pub mod framing;

@@ -14,10 +14,7 @@ pub(crate) fn radius_at(bytes: &[u8], at: usize) -> Option<u16>
     ensures value { MatchOption result (radii_of (drop at bytes.now) ≡ []) (λ n. radii_of (drop at bytes.now) ≡ n ∷ radii_of (drop (at + 2) bytes.now)) }
     ensures within { OnSome result (at + 2 ≤ length bytes.now) }
 {
-    if at > bytes.len() {
-        return None;
-    }
-    let [high, low, ..] = &bytes[at..] else {
+    let [high, low, ..] = bytes.get(at..)? else {
         return None;
     };
     Some(word(*high, *low))

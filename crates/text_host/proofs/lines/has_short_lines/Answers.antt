@@ -1,24 +1,12 @@
-use Rattle.std.proofs.Common.{arith}
-use Rattle.std.proofs.lemmas.List.{at_drop_more, at_drop_all}
-use Rattle.text_host.proofs.LineFacts.{short_is, short_run}
+use Rattle.std.proofs.Common.{◌∙◌, rules}
+use Rattle.std.proofs.lemmas.Iterator.Search.{all_from_yields_List}
+use Rattle.std.proofs.lemmas.Iterator.Splits.{YieldsList-from_slice_split}
+use Rattle.text_host.specs.Lines.{is_feed}
+use Rattle.text_host.proofs.LineFacts.{is_short, short_is}
 use Rattle.text_host.proofs.lines.has_short_lines.Goals as goal
-
-pub loop-b-init : goal.loop-b-init
-loop-b-init c = short_is c.args.bytes.now
-
-pub returns-in-None : goal.returns-in-None
-returns-in-None c =
-    let e = at_drop_more (short_run c.loop-b.run) c.args.bytes.now c.loop-b.b-index 0 (omega arith) in
-    let told = c.in-None.ensures in
-    grind arith
-
-pub loop-b-preserved : goal.loop-b-preserved
-loop-b-preserved c =
-    let e = at_drop_more (short_run c.loop-b.run) c.args.bytes.now c.loop-b.b-index 0 (omega arith) in
-    let told = c.in-Some.ensures in
-    grind arith
+use borrow.Author.Tests.{tests}
 
 pub returns : goal.returns
 returns c =
-    let e = at_drop_all (short_run c.loop-b.run) c.args.bytes.now c.loop-b.b-index (omega arith) in
-    grind arith
+    all_from_yields_List is_short _ _ _ c.all.ensures.ran (YieldsList-from_slice_split _ is_feed c.args.bytes.now c.split.ensures.rest c.split.ensures.done c.split.ensures.closure (λ x r q k. search (rules, tests))) (λ x b q k. search (rules, tests))
+    ∙ short_is c.args.bytes.now

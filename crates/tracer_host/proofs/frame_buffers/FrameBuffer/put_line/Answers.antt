@@ -10,10 +10,10 @@ invariant_of-self c =
     let e = frame_pending (frame_bytes b) c.args.line.now b.whole in
     record { whole = grind arith }
 
-pub returns : goal.returns
-returns c =
+pub returns-clause-after : goal.returns-clause-after
+returns-clause-after c =
     let b = c.args.self.now in
     let line = c.args.line.now in
     let e = frame_unframed (frame_bytes b) line b.whole in
     let whole = length-append (frame_bytes b) (framed line) in
-    record { result = grind arith; after = grind arith; bytes = grind arith }
+    grind arith

@@ -1,12 +1,13 @@
 use Rattle.std.proofs.Common.{drop, arith}
 use Rattle.numeral.proofs.NumeralFacts.{length_numeral}
-use Rattle.tracer_host.specs.HostMeaning.{trace_bytes}
 use Rattle.tracer_host.proofs.RadiusFacts.{radius_short}
 use Rattle.tracer_host.proofs.hosts.TracerHostHost.waits.Goals as goal
 
-pub returns : goal.returns
-returns c =
-    let h = c.args.self.now in
-    let n = length_numeral c.in-Some.radius in
-    let first = c.in-Some.ensures in
-    record { first = grind arith; bounded = radius_short (drop h.at (trace_bytes h.trace)) }
+pub returns-clause-first : goal.returns-clause-first
+returns-clause-first c =
+    let n = length_numeral c.in_ok-radius.radius in
+    let first = c.in_ok-radius.ensures in
+    grind arith
+
+pub returns-clause-bounded : goal.returns-clause-bounded
+returns-clause-bounded c = radius_short (drop c.args.self.now.at c.args.self.now.trace)
