@@ -1,38 +1,11 @@
--- Copying line by line, and that nothing is lost or doubled.
-use Rattle.std.proofs.Common.{◌≡◌, ℕ, zero, suc, ◌+◌, ◌^◌, ◌<◌, ◌≤◌, Bool, true, false, cond, ltb, List, [], ◌∷◌, ◌++◌, length, Ok, Err, sym, refl, ap, ◌∙◌, subst, append_assoc, arith, length-append, ltb-false, ltb-true}
+-- Copying loses nothing and doubles nothing.
+use Rattle.std.proofs.Common.{◌≡◌, ℕ, ◌+◌, ◌≤◌, Bool, true, false, cond, ltb, List, [], ◌∷◌, ◌++◌, length, sym, refl, ap, ◌∙◌, subst, append_assoc, arith, length-append, ltb-false, ltb-true}
 use Rattle.std.proofs.lemmas.List.{append-nil}
 use Rattle.host.specs.Meaning.{Meaning}
 use Rattle.host.specs.Calls.{all_fed, fed, with_line, without_first}
 use Rattle.copying.specs.declared.answers.Ending.{Ending}
 use Rattle.copying.specs.declared.answers.Ending.TheVariants.{AllCopied, NoSpare}
-use Rattle.copying.specs.Copies.{All, Moved, copied, copied_from, ends, one_of}
-
--- hosts that meant a and b mean s and t after one line went over: the others are copied after n + 1 lines
-pub record Next (n : ℕ) (ls : List (List ℕ)) (a b s t : Meaning) : Type 0 where
-  pub same : copied_from (n + 1) s.lines s t ≡ copied_from n ls a b
-  pub fewer : length s.lines < length ls
-  pub less_spare : t.spare + 1 ≤ b.spare
-
-next : (n : ℕ) (ls : List (List ℕ)) (a b : Meaning) → Ok tt ≡ (one_of ls a b).result → Next n ls a b (one_of ls a b).source (one_of ls a b).target
-next n [] a b e = grind arith
-next n (l ∷ ls) a b e = record { same = grind arith; fewer = grind arith; less_spare = grind arith }
-
-pub goes_on : (n : ℕ) (a b : Meaning) {s t : Meaning} → Ok tt ≡ (one_of a.lines a b).result → s ≡ (one_of a.lines a b).source → t ≡ (one_of a.lines a b).target → Next n a.lines a b s t
-goes_on n a b {s} {t} e f g =
-    subst (λ x. Next n a.lines a b x t) (sym f) (subst (λ x. Next n a.lines a b (one_of a.lines a b).source x) (sym g) (next n a.lines a b e))
-
-last : (n : ℕ) (ls : List (List ℕ)) (a b : Meaning) (e : Ending) → Err e ≡ (one_of ls a b).result → copied_from n ls a b ≡ record { answer = record { count = n; ending = e }; source = (one_of ls a b).source; target = (one_of ls a b).target }
-last n [] a b e h = grind arith
-last n (l ∷ ls) a b e h = grind arith
-
--- no line went over: that is all
-pub stays : (n : ℕ) (a b : Meaning) {s t : Meaning} (e : Ending) → Err e ≡ (one_of a.lines a b).result → s ≡ (one_of a.lines a b).source → t ≡ (one_of a.lines a b).target → copied_from n a.lines a b ≡ record { answer = record { count = n; ending = e }; source = s; target = t }
-stays n a b {s} {t} e h f g = let l = last n a.lines a b e h in cc
-
--- the spare at the start, which bounds the count, is bounded since a call told the first of the spares
-pub counts : (n spare spare₀ : ℕ) → (n ≡ 0 → spare ≡ spare₀) → (0 < n → spare₀ < 2 ^ 64) → spare < 2 ^ 64 → spare₀ < 2 ^ 64
-counts zero spare spare₀ first later h = let e = first refl in omega arith
-counts (suc n) spare spare₀ first later h = later (omega arith)
+use Rattle.copying.specs.Copies.{All, Moved, copied, copied_from, ends}
 
 -- `Moved`, after n lines that went over before
 record After (n : ℕ) (a b : Meaning) (all : All) : Type 0 where

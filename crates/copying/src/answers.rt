@@ -6,9 +6,9 @@ ghost use Rattle.copying.specs.Endings.{ending_number};
 #[derive(Clone, Copy, PartialEq, Eq, Debug)]
 pub enum Ending {
     // No line waits any more.
-    AllCopied,
+    AllCopied = 0,
     // The next line, which still waits, is too long for what is spare.
-    NoSpare,
+    NoSpare = 32,
 }
 
 impl Ending {
@@ -16,10 +16,7 @@ impl Ending {
     pub fn number(self) -> u8
         ensures { result ≡ ending_number self }
     {
-        match self {
-            Ending::AllCopied => 0,
-            Ending::NoSpare => 32,
-        }
+        self as u8
     }
 }
 

@@ -14,15 +14,13 @@ fn copy_one<A: Host, B: Host>(from: &mut A, to: &mut B) -> Result<(), Ending>
     ensures target { B.Host.meaning to.new ≡ (copied_one (A.Host.meaning from.old) (B.Host.meaning to.old)).target }
     ensures countable { is_ok result ≡ true → (B.Host.meaning to.old).spare < 2 ^ 64 }
 {
-    let Some(length) = from.waits() else {
-        return Err(Ending::AllCopied);
-    };
+    let length = from.waits().ok_or(Ending::AllCopied)?;
     if to.spare() <= length {
         return Err(Ending::NoSpare);
     }
     let mut line = [0; LONGEST_LINE];
     let taken = from.take(&mut line).unwrap();
-    to.put(&line[0..taken]).unwrap();
+    to.put(&line[..taken]).unwrap();
     Ok(())
 }
 
@@ -34,6 +32,7 @@ pub fn copy_lines<A: Host, B: Host>(from: &mut A, to: &mut B) -> Copied
     ensures moved { Moved (A.Host.meaning from.old) (B.Host.meaning to.old) result (A.Host.meaning from.new) (B.Host.meaning to.new) }
 {
     let mut count = 0;
+    // a loop: a chain that counts the lines would lose why the last call refused
     loop {
         match copy_one(from, to) {
             Ok(()) => count += 1,

@@ -4,7 +4,8 @@ ghost use Rattle.host.specs.declared.choices.EitherHost.TheVariants.{First, Seco
 use crate::hosts::Host;
 use crate::refusals::Refusal;
 
-// One of two hosts; nested, one of any number.
+// One of two hosts; nested, one of any number. An enum, since a boxed `dyn Host` would need the heap and could not be
+// handed out with its promises.
 #[derive(Drop)]
 pub enum EitherHost<A, B> {
     First(A),

@@ -8,3 +8,4 @@ pub mod formats;
 pub mod hosts;
 pub mod quotas;
 pub mod refusals;
+pub mod unread;

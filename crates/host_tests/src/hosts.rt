@@ -80,20 +80,16 @@ fn long_lines_are_refused(rt: HostRuntime) -> Result<(), Fail> {
     text[511] = b'\n';
     assert!(rt; CheckedText::check(rt.alloc(), &text).is_ok());
     text[511] = b'x';
-    match CheckedText::check(rt.alloc(), &text) {
-        Err(CheckError::Flawed(flaw)) => {
-            assert_eq!(rt; flaw.number(), 64);
-            Ok(())
-        },
-        _ => Err(Fail::new("a line of 256 bytes is taken")),
-    }
+    let Err(CheckError::Flawed(flaw)) = CheckedText::check(rt.alloc(), &text) else {
+        return Err(Fail::new("a line of 256 bytes is taken"));
+    };
+    assert_eq!(rt; flaw.number(), 64);
+    Ok(())
 }
 
 #[test]
 fn radii_and_frames(rt: HostRuntime) -> Result<(), Fail> {
-    let Ok(trace) = CheckedTrace::check(rt.alloc(), b"RAD\x00\x01\x00\x02\x00\x07\x30\x39") else {
-        return Err(Fail::new("the trace is refused"));
-    };
+    let trace = CheckedTrace::check(rt.alloc(), b"RAD\x00\x01\x00\x02\x00\x07\x30\x39")?;
     let mut host = TracerHost::new(trace, FrameBuffer::new(rt.alloc(), 6)?);
     let mut place = [b'.'; 6];
     assert_eq!(rt; host.waits(), Some(1));

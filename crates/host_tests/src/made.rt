@@ -6,8 +6,6 @@ use text_host::hosts::TextHost;
 
 // A text host over `text`, which takes `room` bytes.
 pub fn text_host(rt: &HostRuntime, text: &[u8], room: usize) -> Result<TextHost, Fail> {
-    match CheckedText::check(rt.alloc(), text) {
-        Ok(text) => Ok(TextHost::new(text, PrintBuffer::new(rt.alloc(), room)?)),
-        Err(_) => Err(Fail::new("the text is refused")),
-    }
+    let text = CheckedText::check(rt.alloc(), text)?;
+    Ok(TextHost::new(text, PrintBuffer::new(rt.alloc(), room)?))
 }

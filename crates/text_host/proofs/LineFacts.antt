@@ -1,5 +1,5 @@
 -- The lines of a text, cut one by one.
-use Rattle.std.proofs.Common.{◌≡◌, ℕ, zero, suc, ◌+◌, ◌<◌, ◌≤◌, Bool, true, cond, eqb, nat_le, List, [], ◌∷◌, length, take, drop, refl, sym, ap, ◌∙◌, arith, length-take}
+use Rattle.std.proofs.Common.{◌≡◌, ℕ, zero, suc, ◌+◌, ◌<◌, ◌≤◌, Bool, true, cond, eqb, nat_le, List, [], ◌∷◌, length, take, drop, refl, sym, ap, subst, ◌∙◌, arith, length-take}
 use Rattle.std.specs.List.{list_all, onto_first, position, position_or_len, slice_split}
 use Rattle.std.specs.Option.{unwrap_or}
 use Rattle.std.proofs.lemmas.List.Recursion.{is_position_or_len}
@@ -7,7 +7,7 @@ use Rattle.std.proofs.lemmas.List.Splits.{length-slice_split}
 use Rattle.text_host.specs.Lines.{is_feed, joined_to, lines_of}
 use Rattle.text_host.specs.Texts.{text_flaw}
 use Rattle.host.specs.Meaning.{Bounded, short_lines}
-use Rattle.host.specs.Sound.{empty_or_sound}
+use Rattle.host.specs.Sound.{LeftOfSound, empty_or_sound}
 
 -- how many bytes stand before the first line feed, or in all
 abbrev until_feed : List ℕ → ℕ
@@ -90,6 +90,6 @@ sound_bounded : (xs : List ℕ) → empty_or_sound text_flaw xs ≡ true → Bou
 sound_bounded [] h = refl
 sound_bounded (b ∷ bs) h = grind arith
 
--- so are those of a checked text
-pub checked_bounded : (n : ℕ) (xs : List ℕ) → empty_or_sound text_flaw xs ≡ true → Bounded (lines_of (drop n xs))
-checked_bounded n xs h = bounded_drop n xs (sound_bounded xs h)
+-- so are those of what is left of a checked text
+pub left_bounded : (xs : List ℕ) → LeftOfSound text_flaw xs → Bounded (lines_of xs)
+left_bounded xs l = subst (λ ys. Bounded (lines_of ys)) (sym l.rest) (bounded_drop l.gone l.whole (sound_bounded l.whole l.sound))

@@ -1,5 +1,4 @@
 -- What a text host means.
-use Rattle.std.specs.Prelude.{drop}
 use Rattle.host.specs.Meaning.{Meaning}
 use Rattle.print_buffer.specs.Buffers.{buffer_bytes, buffer_room}
 use Rattle.text_host.specs.declared.hosts.TextHost.{TextHost}
@@ -7,7 +6,7 @@ use Rattle.text_host.specs.Lines.{lines_of}
 
 abbrev pub text_meaning : TextHost → Meaning
 text_meaning h = record {
-  lines = lines_of (drop h.at h.text);
+  lines = lines_of h.text;
   printed = buffer_bytes h.out;
   spare = buffer_room h.out;
 }

@@ -4,19 +4,19 @@ ghost use Rattle.print_buffer.specs.Buffers.{buffer_bytes, buffer_room};
 ghost use Rattle.text_host.specs.HostMeaning.{text_meaning};
 ghost use Rattle.text_host.specs.Lines.{lines_of};
 
-use crate::checked::CheckedText;
-use crate::lines::{line_after, line_from};
+use crate::checked::{CheckedText, Text};
+use crate::lines::first_line;
 use host::admission::admit;
 use host::hosts::Host;
 use host::refusals::Refusal;
+use host::unread::Unread;
 use print_buffer::buffers::PrintBuffer;
 
 // A host whose lines are those of a checked text, and which prints text.
 #[derive(Drop)]
 pub struct TextHost {
-    text: CheckedText,
-    // where the first line that waits begins: a place and not the slice from there, since the host owns its text
-    at: usize,
+    // the lines that wait
+    text: Unread<Text>,
     out: PrintBuffer,
 }
 
@@ -24,7 +24,10 @@ impl TextHost {
     pub fn new(text: CheckedText, out: PrintBuffer) -> TextHost
         ensures { text_meaning result ≡ record { lines = lines_of text; printed = buffer_bytes out; spare = buffer_room out } }
     {
-        TextHost { text, at: 0, out }
+        TextHost {
+            text: Unread::new(text),
+            out,
+        }
     }
 
     // What was printed.
@@ -39,7 +42,7 @@ impl Host for TextHost {
     ghost meaning = { text_meaning };
 
     fn waits(&self) -> Option<usize> {
-        line_from(self.text.bytes(), self.at).map(|line| line.len())
+        first_line(self.text.bytes()).map(|line| line.len())
     }
 
     fn spare(&self) -> usize {
@@ -47,13 +50,13 @@ impl Host for TextHost {
     }
 
     fn take(&mut self, place: &mut [u8]) -> Result<usize, Refusal> {
-        let line = line_from(self.text.bytes(), self.at).ok_or(Refusal::NoLine)?;
+        let line = first_line(self.text.bytes()).ok_or(Refusal::NoLine)?;
         let length = line.len();
         if place.len() < length {
             return Err(Refusal::TooLong);
         }
-        place[0..length].copy_from_slice(line);
-        self.at = line_after(self.text.bytes(), self.at + length);
+        place[..length].copy_from_slice(line);
+        self.text.skip(length + 1);
         Ok(length)
     }
 

@@ -1,5 +1,5 @@
 // Finding the lines of a text.
-ghost use Rattle.std.specs.Prelude.{◌≡◌, ◌+◌, ◌<◌, ◌≤◌, [], ◌∷◌, length, take, drop, IfSome, MatchOption};
+ghost use Rattle.std.specs.Prelude.{◌≡◌, ◌+◌, [], ◌∷◌, length, drop, MatchOption};
 ghost use Rattle.std.specs.List.{position};
 ghost use Rattle.host.specs.Meaning.{short_lines};
 ghost use Rattle.text_host.specs.Lines.{is_feed, lines_of};
@@ -25,28 +25,12 @@ fn feed_at(bytes: &[u8]) -> Option<usize>
 }
 
 // The first line of a text.
-fn first_line(text: &[u8]) -> Option<&[u8]>
-    ensures value { MatchOption result (lines_of text.now ≡ []) (λ l. lines_of text.now ≡ l.now ∷ lines_of (drop (length l.now + 1) text.now)) }
-    ensures within { IfSome result (λ l. length l.now ≤ length text.now) }
+pub(crate) fn first_line(text: &[u8]) -> Option<&[u8]>
+    ensures { MatchOption result (lines_of text.now ≡ []) (λ l. lines_of text.now ≡ l.now ∷ lines_of (drop (length l.now + 1) text.now)) }
 {
     if text.is_empty() {
         return None;
     }
     let end = feed_at(text).unwrap_or(text.len());
     Some(&text[..end])
-}
-
-// The line that begins at `at`.
-pub(crate) fn line_from(bytes: &[u8], at: usize) -> Option<&[u8]>
-    ensures value { MatchOption result (lines_of (drop at bytes.now) ≡ []) (λ l. lines_of (drop at bytes.now) ≡ l.now ∷ lines_of (drop (at + length l.now + 1) bytes.now)) }
-    ensures within { IfSome result (λ l. at + length l.now ≤ length bytes.now) }
-{
-    first_line(bytes.get(at..)?)
-}
-
-// Where the line after one that ends at `end` begins.
-pub(crate) fn line_after(bytes: &[u8], end: usize) -> usize
-    ensures { drop result bytes.now ≡ drop (end + 1) bytes.now }
-{
-    if end < bytes.len() { end + 1 } else { end }
 }

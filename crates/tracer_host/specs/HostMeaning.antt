@@ -1,5 +1,5 @@
 -- What a tracer host means.
-use Rattle.std.specs.Prelude.{ℕ, List, [], drop}
+use Rattle.std.specs.Prelude.{ℕ, List, []}
 use Rattle.host.specs.Meaning.{Meaning}
 use Rattle.print_buffer.specs.Buffers.{buffer_bytes, buffer_room}
 use Rattle.tracer_host.specs.declared.frame_buffers.FrameBuffer.{FrameBuffer}
@@ -32,7 +32,7 @@ tracer_frames h = frame_bytes h.out
 
 abbrev pub tracer_meaning : TracerHost → Meaning
 tracer_meaning h = record {
-  lines = radius_lines (drop h.at h.trace);
+  lines = radius_lines h.trace;
   printed = lines_printed h.out;
   spare = frame_room h.out;
 }

@@ -3,11 +3,12 @@ ghost use Rattle.std.specs.Prelude.{◌≡◌, drop};
 ghost use Rattle.tracer_host.specs.HostMeaning.{frame_room, lines_printed, tracer_frames, tracer_meaning};
 ghost use Rattle.tracer_host.specs.Traces.{radius_lines};
 
-use crate::checked::CheckedTrace;
+use crate::checked::{CheckedTrace, Trace};
 use crate::frame_buffers::FrameBuffer;
-use crate::words::radius_at;
+use crate::words::first_radius;
 use host::hosts::Host;
 use host::refusals::Refusal;
+use host::unread::Unread;
 use numeral::writer::{LONGEST_NUMERAL, write_numeral};
 
 // Where the radii begin in a trace file.
@@ -17,10 +18,8 @@ const FIRST_RADIUS: usize = 7;
 // as a byte, and its text.
 #[derive(Drop)]
 pub struct TracerHost {
-    trace: CheckedTrace,
-    // where the bytes of the first radius that waits begin: a place and not the slice from there, since the host owns
-    // its trace
-    at: usize,
+    // the radii that wait
+    trace: Unread<Trace>,
     out: FrameBuffer,
 }
 
@@ -28,11 +27,9 @@ impl TracerHost {
     pub fn new(trace: CheckedTrace, out: FrameBuffer) -> TracerHost
         ensures { tracer_meaning result ≡ record { lines = radius_lines (drop 7 trace); printed = lines_printed out; spare = frame_room out } }
     {
-        TracerHost {
-            trace,
-            at: FIRST_RADIUS,
-            out,
-        }
+        let mut trace = Unread::new(trace);
+        trace.skip(FIRST_RADIUS);
+        TracerHost { trace, out }
     }
 
     // The frames that were printed.
@@ -47,7 +44,7 @@ impl Host for TracerHost {
     ghost meaning = { tracer_meaning };
 
     fn waits(&self) -> Option<usize> {
-        let radius = radius_at(self.trace.bytes(), self.at)?;
+        let radius = first_radius(self.trace.bytes())?;
         let mut place = [0; LONGEST_NUMERAL];
         write_numeral(u32::from(radius), &mut place).ok()
     }
@@ -57,9 +54,9 @@ impl Host for TracerHost {
     }
 
     fn take(&mut self, place: &mut [u8]) -> Result<usize, Refusal> {
-        let radius = radius_at(self.trace.bytes(), self.at).ok_or(Refusal::NoLine)?;
+        let radius = first_radius(self.trace.bytes()).ok_or(Refusal::NoLine)?;
         let length = write_numeral(u32::from(radius), place).map_err(|_| Refusal::TooLong)?;
-        self.at += 2;
+        self.trace.skip(2);
         Ok(length)
     }
 

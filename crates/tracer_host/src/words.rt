@@ -1,5 +1,5 @@
 // The 16-bit numbers of a trace.
-ghost use Rattle.std.specs.Prelude.{◌≡◌, ◌+◌, ◌*◌, ◌≤◌, [], ◌∷◌, length, drop, MatchOption, OnSome};
+ghost use Rattle.std.specs.Prelude.{◌≡◌, ◌+◌, ◌*◌, [], ◌∷◌, drop, MatchOption};
 ghost use Rattle.tracer_host.specs.Traces.{radii_of};
 
 // The number with these two bytes, the high one first.
@@ -9,12 +9,11 @@ pub(crate) fn word(high: u8, low: u8) -> u16
     u16::from_be_bytes([high, low])
 }
 
-// The radius whose bytes begin at `at`.
-pub(crate) fn radius_at(bytes: &[u8], at: usize) -> Option<u16>
-    ensures value { MatchOption result (radii_of (drop at bytes.now) ≡ []) (λ n. radii_of (drop at bytes.now) ≡ n ∷ radii_of (drop (at + 2) bytes.now)) }
-    ensures within { OnSome result (at + 2 ≤ length bytes.now) }
+// The first of some radii.
+pub(crate) fn first_radius(bytes: &[u8]) -> Option<u16>
+    ensures { MatchOption result (radii_of bytes.now ≡ []) (λ n. radii_of bytes.now ≡ n ∷ radii_of (drop 2 bytes.now)) }
 {
-    let [high, low, ..] = bytes.get(at..)? else {
+    let [high, low, ..] = bytes else {
         return None;
     };
     Some(word(*high, *low))

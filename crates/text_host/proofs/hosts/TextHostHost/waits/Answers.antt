@@ -1,5 +1,5 @@
-use Rattle.text_host.proofs.LineFacts.{checked_bounded}
+use Rattle.text_host.proofs.LineFacts.{left_bounded}
 use Rattle.text_host.proofs.hosts.TextHostHost.waits.Goals as goal
 
 pub returns-clause-bounded : goal.returns-clause-bounded
-returns-clause-bounded c = checked_bounded c.args.self.now.at c.args.self.now.text c.bytes.ensures.sound
+returns-clause-bounded c = left_bounded c.args.self.now.text c.bytes.ensures.sound

@@ -1,4 +1,4 @@
-use Rattle.std.proofs.Common.{drop, arith}
+use Rattle.std.proofs.Common.{arith}
 use Rattle.numeral.proofs.NumeralFacts.{length_numeral}
 use Rattle.tracer_host.proofs.RadiusFacts.{radius_short}
 use Rattle.tracer_host.proofs.hosts.TracerHostHost.waits.Goals as goal
@@ -10,4 +10,4 @@ returns-clause-first c =
     grind arith
 
 pub returns-clause-bounded : goal.returns-clause-bounded
-returns-clause-bounded c = radius_short (drop c.args.self.now.at c.args.self.now.trace)
+returns-clause-bounded c = radius_short c.args.self.now.trace
