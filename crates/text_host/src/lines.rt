@@ -1,5 +1,5 @@
 // Finding the lines of a text.
-ghost use Rattle.std.specs.Prelude.{◌≡◌, ◌+◌, [], ◌∷◌, length, drop, MatchOption};
+ghost use Rattle.std.specs.Prelude.{◌≡◌, ◌+◌, [], ◌∷◌, length, drop, MatchOption, nat_le};
 ghost use Rattle.std.specs.List.{position};
 ghost use Rattle.host.specs.Meaning.{short_lines};
 ghost use Rattle.text_host.specs.Lines.{is_feed, lines_of};
@@ -8,13 +8,17 @@ use host::admission::LONGEST_LINE;
 
 const FEED: u8 = b'\n';
 
+fn is_short(line: &[u8]) -> bool
+    ensures { result ≡ nat_le (length line.now) 255 }
+{
+    line.len() <= LONGEST_LINE
+}
+
 // Whether no line is over 255 bytes.
 pub(crate) fn has_short_lines(bytes: &[u8]) -> bool
     ensures { result ≡ short_lines (lines_of bytes.now) }
 {
-    bytes
-        .split(|b| *b == FEED)
-        .all(|line| line.len() <= LONGEST_LINE)
+    bytes.split(|b| *b == FEED).all(is_short)
 }
 
 // Where the first line feed stands.
