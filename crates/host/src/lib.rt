@@ -1,4 +1,5 @@
-// Hosts: what a routine takes its lines from and prints its lines to, and the layers over them.
+// Hosts: what a routine takes its lines from and prints its lines to, the layers over them, and the checked bytes that
+// they read.
 #![tactic(auto)]
 
 pub mod admission;

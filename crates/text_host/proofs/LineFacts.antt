@@ -1,42 +1,31 @@
 -- The lines of a text, cut one by one.
-use Rattle.std.proofs.Common.{◌≡◌, ℕ, zero, suc, ◌+◌, ◌<◌, ◌≤◌, Bool, true, cond, eqb, nat_le, List, [], ◌∷◌, length, take, drop, refl, sym, ap, subst, ◌∙◌, arith, length-take}
-use Rattle.std.specs.List.{list_all, onto_first, position, position_or_len, slice_split}
+use Rattle.std.proofs.Common.{◌≡◌, ℕ, zero, suc, ◌+◌, ◌<◌, ◌≤◌, Bool, true, cond, nat_le, List, [], ◌∷◌, length, take, drop, refl, sym, ap, subst, ◌∙◌, arith, ltb, not, Some, None}
+use Rattle.std.specs.List.{after_first, before_first, list_all, onto_first, position, position_or_len, slice_split}
 use Rattle.std.specs.Option.{unwrap_or}
-use Rattle.std.proofs.lemmas.List.Recursion.{is_position_or_len}
+use Rattle.std.proofs.lemmas.List.Folds.{length-prefix_len}
+use Rattle.std.proofs.lemmas.List.Sums.{prefix_len-le-length}
 use Rattle.std.proofs.lemmas.List.Splits.{length-slice_split}
 use Rattle.text_host.specs.Lines.{is_feed, joined_to, lines_of}
 use Rattle.text_host.specs.Texts.{text_flaw}
 use Rattle.host.specs.Meaning.{Bounded, short_lines}
 use Rattle.host.specs.Sound.{LeftOfSound, empty_or_sound}
 
--- how many bytes stand before the first line feed, or in all
-abbrev until_feed : List ℕ → ℕ
-until_feed [] = 0
-until_feed (b ∷ bs) = cond (eqb b 10) 0 (suc (until_feed bs))
-
-until_feed_le : (xs : List ℕ) → until_feed xs ≤ length xs
-until_feed_le [] = omega arith
-until_feed_le (b ∷ bs) = let h = until_feed_le bs in grind arith
-
 -- a text that is not empty is its first line, and the lines after that and its line feed
-lines_split : (b : ℕ) (bs : List ℕ) → lines_of (b ∷ bs) ≡ take (until_feed (b ∷ bs)) (b ∷ bs) ∷ lines_of (drop (suc (until_feed (b ∷ bs))) (b ∷ bs))
+lines_split : (b : ℕ) (bs : List ℕ) → lines_of (b ∷ bs) ≡ before_first is_feed (b ∷ bs) ∷ lines_of (after_first is_feed (b ∷ bs))
 lines_split b [] = grind arith
 lines_split b (x ∷ xs) = let h = lines_split x xs in grind arith
 
-lines_rest : (ys : List ℕ) (n : ℕ) → n ≡ until_feed ys → 0 < length ys → lines_of ys ≡ take n ys ∷ lines_of (drop (length (take n ys) + 1) ys)
-lines_rest [] n e h = absurd (omega arith)
-lines_rest (b ∷ bs) n e h =
-    let within = until_feed_le (b ∷ bs) in
-    let cut = lines_split b bs in
-    let taken : length (take n (b ∷ bs)) + 1 ≡ suc (until_feed (b ∷ bs)) = omega (arith, length-take n (b ∷ bs)) in
-    rw (taken, e) cut
+or_all : (n len : ℕ) → n ≤ len → unwrap_or (cond (ltb n len) (Some n) None) len ≡ n
+or_all n len h = grind arith
 
 -- the bytes up to the first line feed are the first line
 pub first_taken : (ys : List ℕ) (n : ℕ) → n ≡ unwrap_or (position is_feed ys) (length ys) → 0 < length ys → lines_of ys ≡ take n ys ∷ lines_of (drop (length (take n ys) + 1) ys)
-first_taken ys n e h =
-    let at : until_feed ys ≡ position_or_len is_feed ys = is_position_or_len until_feed is_feed refl (λ x xs. grind arith) ys in
-    let within = until_feed_le ys in
-    lines_rest ys n (grind arith) h
+first_taken [] n e h = absurd (omega arith)
+first_taken (b ∷ bs) n e h =
+    let at = position_or_len is_feed (b ∷ bs) in
+    let same : n ≡ at = e ∙ or_all at (length (b ∷ bs)) (prefix_len-le-length (λ x. not (is_feed x)) (b ∷ bs)) in
+    let taken : length (take at (b ∷ bs)) ≡ at = length-prefix_len (λ x. not (is_feed x)) (b ∷ bs) in
+    rw (same, taken) (lines_split b bs)
 
 -- the parts between line feeds without an empty last one
 abbrev trimmed : List (List ℕ) → List (List ℕ)

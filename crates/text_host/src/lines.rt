@@ -8,6 +8,7 @@ use host::admission::LONGEST_LINE;
 
 const FEED: u8 = b'\n';
 
+// Whether a line is short enough for a host.
 fn is_short(line: &[u8]) -> bool
     ensures { result ≡ nat_le (length line.now) 255 }
 {
