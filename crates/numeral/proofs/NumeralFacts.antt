@@ -21,9 +21,3 @@ numeral_standard n h =
     let fits : n < 2 ^ 64 = omega arith in
     let few : length (decimal n) ≤ 10 = length-decimal-le 10 n (omega arith) h fits in
     decimal_from_prepends numeral_before onto 10 n [] fits few ∙ append-nil (decimal n)
-
--- what was written, cut out of the place again
-pub written_front : (n count : ℕ) (place place' : List ℕ) → n ≤ 2147483648 → (written n place).result ≡ Ok count → place' ≡ (written n place).place → take count place' ≡ numeral n
-written_front n count place place' h e f =
-    let t = take_at (numeral n) (drop (length (numeral n)) place) (length (numeral n)) refl in
-    grind arith
