@@ -8,6 +8,7 @@ use std::marker::Model;
 #[derive(Drop)]
 pub struct PrintBuffer {
     pub(crate) bytes: Vec<u8>,
+    // beside the bytes' capacity, of which `extend_from_slice` promises only that it never shrinks
     pub(crate) limit: usize,
 }
 

@@ -41,6 +41,7 @@ fn list_lines(mut tracer: TracerHost, text: TextHost, out: &mut PrintBuffer)
     };
     let copied = copy_lines(&mut tracer, &mut pile);
     out.append(pile.below.printed(), b"").unwrap();
+    // as many lines as the quota has bytes at most, so the count fits
     append_pair(out, u32::from(copied.ending.number()), copied.count as u32).unwrap();
 }
 
