@@ -2,3 +2,4 @@
 #![tactic(auto)]
 
 pub mod appending;
+pub mod errors;

@@ -2,6 +2,7 @@
 ghost use Rattle.numeral.specs.Numerals.{Standard};
 
 // The numeral is the one that `{n}` writes.
+#[tactic(auto, using(crate::proofs::NumeralFacts::numeral_standard))]
 pub fn numerals_stand()
     ensures { Standard }
 {}

@@ -3,5 +3,4 @@
 
 pub mod errors;
 pub mod laws;
-mod rows;
 pub mod writer;

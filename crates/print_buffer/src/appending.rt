@@ -1,5 +1,5 @@
 // What can be asked of a print buffer, and how it grows.
-ghost use Rattle.std.specs.Prelude.{◌≡◌, [], IfOk};
+ghost use Rattle.std.specs.Prelude.{◌≡◌, ◌+◌, [], length, IfOk};
 ghost use Rattle.print_buffer.specs.Buffers.{appended, buffer_bytes, buffer_limit, buffer_room};
 
 use crate::buffers::PrintBuffer;
@@ -24,9 +24,10 @@ impl PrintBuffer {
         self.bytes.as_slice()
     }
 
-    // How many bytes it still takes.
+    // How many bytes it still takes: with those that it holds, its limit.
     pub fn room(&self) -> usize
-        ensures { result ≡ buffer_room self.now }
+        ensures room { result ≡ buffer_room self.now }
+        ensures whole { length (buffer_bytes self.now) + result ≡ buffer_limit self.now }
     {
         self.limit - self.bytes.len()
     }
@@ -34,8 +35,7 @@ impl PrintBuffer {
     // Appends two parts, one after the other, or neither.
     pub fn append(&mut self, first: &[u8], second: &[u8]) -> Result<(), NoRoom>
         ensures result { result ≡ (appended self.old first.now second.now).result }
-        ensures bytes { buffer_bytes self.new ≡ (appended self.old first.now second.now).bytes }
-        ensures limit { buffer_limit self.new ≡ buffer_limit self.old }
+        ensures after { self.new ≡ record self.old { bytes = (appended self.old first.now second.now).bytes } }
     {
         let room = self.room();
         if room < first.len() || room - first.len() < second.len() {

@@ -14,15 +14,15 @@ lines_cost (l ∷ ls) =
     omega arith
 
 -- so neither the count nor what was printed is over the spare
-pub record Within (spare count : ℕ) (printed : List ℕ) : Type 0 where
-  pub few : count ≤ spare
-  pub short : length printed ≤ spare
-
-pub within : (a b a' b' : Meaning) (answer : Copied) → b.printed ≡ [] → Moved a b answer a' b' → Within b.spare answer.count b'.printed
-within a b a' b' answer none m =
+pub few : {a b a' b' : Meaning} {answer : Copied} → Moved a b answer a' b' → answer.count ≤ b.spare
+few m =
     let h = lines_cost m.went in
     let s = m.spent in
     let k = m.counted in
-    let p : b'.printed ≡ all_fed m.went = m.printed ∙ ap (λ x. x ++ all_fed m.went) none in
-    let l : length b'.printed ≡ length (all_fed m.went) = ap length p in
-    record { few = omega arith; short = omega arith }
+    omega arith
+
+pub short : {a b a' b' : Meaning} {answer : Copied} → b.printed ≡ [] → Moved a b answer a' b' → length b'.printed ≤ b.spare
+short none m =
+    let s = m.spent in
+    let l = ap length (m.printed ∙ ap (λ x. x ++ all_fed m.went) none) in
+    omega arith

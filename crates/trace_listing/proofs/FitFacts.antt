@@ -1,5 +1,5 @@
 -- A listing holds as many radii as fit.
-use Rattle.std.proofs.Common.{◌≡◌, ℕ, ◌+◌, ◌≤◌, List, [], ◌∷◌, ◌++◌, map, length, take, sym, refl, ap, ◌∙◌, subst, append_assoc, arith, length-append}
+use Rattle.std.proofs.Common.{◌≡◌, ℕ, ◌+◌, List, [], ◌∷◌, ◌++◌, map, length, take, sym, refl, ap, ◌∙◌, append_assoc, arith, length-append}
 use lib.ListN.{length-map}
 use Rattle.std.proofs.lemmas.List.{take_at, take-map}
 use Rattle.copying.specs.declared.answers.Ending.{Ending}
@@ -25,21 +25,13 @@ first_lines rs went rest e =
 next_line : (rs : List ℕ) (went rest : List (List ℕ)) (l : List ℕ) → map numeral rs ≡ went ++ (l ∷ rest) → length (radius_text (take (length went + 1) rs)) ≡ length (all_fed went) + (length l + 1)
 next_line rs went rest l e =
     let n : length (went ++ (l ∷ [])) ≡ length went + 1 = length-append went (l ∷ []) in
-    let r : radius_text (take (length (went ++ (l ∷ []))) rs) ≡ all_fed (went ++ (l ∷ [])) = first_lines rs (went ++ (l ∷ [])) rest (e ∙ sym (append_assoc went (l ∷ []) rest)) in
-    let t : radius_text (take (length went + 1) rs) ≡ all_fed (went ++ (l ∷ [])) = subst (λ k. radius_text (take k rs) ≡ all_fed (went ++ (l ∷ []))) n r in
-    let f = ap length (t ∙ fed_append went (l ∷ [])) in
-    let a = length-append (all_fed went) (all_fed (l ∷ [])) in
-    let b = length-append (fed l) [] in
-    let d = length-append l (10 ∷ []) in
-    omega arith
+    let r = first_lines rs (went ++ (l ∷ [])) rest (e ∙ sym (append_assoc went (l ∷ []) rest)) in
+    rw (← n, r, fed_append) (simp length-append (omega arith))
 
 -- the reason that copying told is the listing's own
 ends_after : (rs : List ℕ) (went rest : List (List ℕ)) (e : Ending) (spare : ℕ) → map numeral rs ≡ went ++ rest → spare + length (all_fed went) ≡ 4096 → ends e rest spare → EndsAfter (length went) rs e
 ends_after rs went [] AllCopied spare m s h =
-    let k = ap length m in
-    let l = length-map rs numeral in
-    let a = length-append went [] in
-    omega arith
+    grind (arith, length-append, length-map {A = ℕ} rs numeral, ap length m)
 ends_after rs went (l ∷ ls) AllCopied spare m s h = absurd h
 ends_after rs went [] NoSpare spare m s h = absurd h
 ends_after rs went (l ∷ ls) NoSpare spare m s h =
@@ -56,13 +48,12 @@ as_many rs a e =
     let went = m.went in
     let split : map numeral rs ≡ went ++ all.source.lines = sym e ∙ m.in_order in
     let first = first_lines rs went all.source.lines split in
-    let n : length went ≡ all.answer.count = sym m.counted in
-    let text : radius_text (take all.answer.count rs) ≡ all_fed went = subst (λ k. radius_text (take k rs) ≡ all_fed went) n first in
+    let text : radius_text (take all.answer.count rs) ≡ all_fed went = rw m.counted first in
     let s = m.spent in
     record {
       count = all.answer.count;
       ending = all.answer.ending;
-      whole = ap (λ x. x ++ summary (ending_number all.answer.ending) all.answer.count) (m.printed ∙ sym text);
-      within = subst (λ x. length x ≤ 4096) (sym text) (omega arith);
-      ends_so = subst (λ k. EndsAfter k rs all.answer.ending) n (ends_after rs went all.source.lines all.answer.ending all.target.spare split s m.ended);
+      whole = rw text (ap (λ x. x ++ summary (ending_number all.answer.ending) all.answer.count) m.printed);
+      within = rw text (omega arith);
+      ends_so = rw m.counted (ends_after rs went all.source.lines all.answer.ending all.target.spare split s m.ended);
     }

@@ -1,18 +1,19 @@
 -- What the listing of a trace is, byte for byte.
-use Rattle.std.specs.Prelude.{◌≡◌, ℕ, ◌+◌, ◌<◌, ◌≤◌, List, [], ◌∷◌, ◌++◌, map, length, take, drop, Some, None, Option}
+use Rattle.std.specs.Prelude.{◌≡◌, ℕ, ◌+◌, ◌<◌, ◌≤◌, List, [], ◌++◌, map, length, take, drop, Some, None, Option}
 use Rattle.copying.specs.declared.answers.Ending.{Ending}
 use Rattle.copying.specs.declared.answers.Ending.TheVariants.{AllCopied, NoSpare}
 use Rattle.copying.specs.Copies.{All, copied}
 use Rattle.copying.specs.Endings.{ending_number}
 use Rattle.host.specs.Calls.{all_fed}
 use Rattle.host.specs.Meaning.{Meaning, under_quota}
+use Rattle.number_output.specs.Numbers.{pair_text}
 use Rattle.numeral.specs.Numerals.{numeral}
 use Rattle.tracer_host.specs.declared.flaws.TraceFlaw.{TraceFlaw}
 use Rattle.tracer_host.specs.Traces.{flaw_number, radius_lines, trace_flaw}
 
 -- the last line: a number and a count
 abbrev pub summary : ℕ → ℕ → List ℕ
-summary number count = (numeral number ++ (32 ∷ [])) ++ (numeral count ++ (10 ∷ []))
+summary = pair_text
 
 -- a tracer host over a trace, which prints nothing
 abbrev pub tracer_start : List ℕ → Meaning

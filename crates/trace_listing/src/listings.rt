@@ -7,11 +7,10 @@ ghost use Rattle.tracer_host.specs.HostMeaning.{tracer_meaning};
 ghost use Rattle.tracer_host.specs.Traces.{radii_of, trace_flaw};
 ghost use Rattle.trace_listing.specs.Listings.{AsManyAsFit, copied_listing, listing, pile_start};
 
-use crate::summaries::append_summary;
 use copying::copies::copy_lines;
 use host::checks::CheckError;
 use host::quotas::Quota;
-use numeral::writer::LONGEST_NUMERAL;
+use number_output::appending::{LONGEST_PAIR, append_pair};
 use print_buffer::buffers::PrintBuffer;
 use std::alloc::{AllocError, Global};
 use text_host::checked::CheckedText;
@@ -26,8 +25,8 @@ const QUOTA: usize = 4_096;
 // The room of the text host under the quota.
 const ROOM: usize = 8_192;
 
-// How many bytes a listing has at most: its lines, and two numerals with a byte after each.
-const LONGEST_LISTING: usize = QUOTA + 2 * (LONGEST_NUMERAL + 1);
+// How many bytes a listing has at most: its lines, and the summary.
+const LONGEST_LISTING: usize = QUOTA + LONGEST_PAIR;
 
 // Lists the tracer's lines, copied through a quota to the text host, and the summary.
 fn list_lines(mut tracer: TracerHost, text: TextHost, out: &mut PrintBuffer)
@@ -42,10 +41,12 @@ fn list_lines(mut tracer: TracerHost, text: TextHost, out: &mut PrintBuffer)
     };
     let copied = copy_lines(&mut tracer, &mut pile);
     out.append(pile.below.printed(), b"").unwrap();
-    append_summary(out, copied.ending.number(), copied.count as u32);
+    // as many lines as the quota has bytes at most, so the count fits
+    append_pair(out, u32::from(copied.ending.number()), copied.count as u32).unwrap();
 }
 
 // The listing of a trace. All memory is taken before the first line is copied; want of it is the one error.
+#[tactic(auto, using(number_output::proofs::PairFacts::length_pair_text))]
 pub fn list_trace(heap: Global, input: &[u8]) -> Result<PrintBuffer, AllocError>
     ensures bytes { IfOk result (λ b. buffer_bytes b ≡ listing input.now) }
     ensures fits { IfOk result (λ b. trace_flaw input.now ≡ None → AsManyAsFit (radii_of (drop 7 input.now)) (buffer_bytes b)) }
@@ -57,12 +58,11 @@ pub fn list_trace(heap: Global, input: &[u8]) -> Result<PrintBuffer, AllocError>
         Ok(trace) => {
             let text = TextHost::new(CheckedText::empty(heap), lines);
             list_lines(TracerHost::new(trace, frames), text, &mut out);
-            Ok(out)
         }
         Err(CheckError::Flawed(flaw)) => {
-            append_summary(&mut out, flaw.number(), 0);
-            Ok(out)
+            append_pair(&mut out, u32::from(flaw.number()), 0).unwrap();
         }
-        Err(CheckError::NoMemory) => Err(AllocError),
+        Err(CheckError::NoMemory) => return Err(AllocError),
     }
+    Ok(out)
 }

@@ -1,13 +1,6 @@
 // Traces that are refused: one line, the number and 0.
-use std::process::Abort;
+use crate::traces::lists;
 use std::test::Fail;
-use trace_listing::listings::list_trace;
-
-fn lists(rt: &(impl Abort + AllocGlobal), input: &[u8], output: &[u8]) -> Result<(), Fail> {
-    let listing = list_trace(rt.alloc(), input)?;
-    assert_eq!(rt; listing.bytes(), output);
-    Ok(())
-}
 
 #[test]
 fn under_seven_bytes_or_another_mark(rt: HostRuntime) -> Result<(), Fail> {
