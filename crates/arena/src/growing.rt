@@ -6,6 +6,7 @@ use crate::arenas::Arena;
 use crate::nodes::Node;
 use crate::order::is_before;
 use std::alloc::{AllocError, Global};
+use std::mem;
 
 // Why a node is not stored; the table is then as it was.
 #[derive(Clone, Copy, PartialEq, Eq, Debug)]
@@ -31,6 +32,20 @@ impl Arena {
         ensures limit { arena_limit self.new ≡ arena_limit self.old }
     {
         self.nodes.clear();
+    }
+
+    // Takes the table out, and leaves one that takes no node.
+    pub fn take(&mut self) -> Arena
+        ensures nodes { arena_nodes result ≡ arena_nodes self.old }
+        ensures limit { arena_limit result ≡ arena_limit self.old }
+        ensures left { (arena_nodes self.new ≡ []) × (arena_limit self.new ≡ 0) }
+    {
+        let heap = *self.nodes.allocator();
+        let none = Arena {
+            nodes: Vec::new(heap),
+            limit: 0,
+        };
+        mem::replace(self, none)
     }
 
     // Stores a node behind all others, and tells its index.

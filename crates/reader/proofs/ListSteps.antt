@@ -214,18 +214,18 @@ listed_empty {f} {g} {k} {n} {m} {i} {d} {q} close o p = record {
 }
 
 listed_by : {f g k : Feed} {n m m' : Arena} {d : ℕ} {close : Mark} {o o' : Group → Hole → Reading} (r : Result ℕ Stop) → Kept f n k m' → ((j : Group) (h : Hole) → closer j ≡ mark_of close → o j h ≡ o' j h)
-    → feed_source g ≡ feed_source f → ToldList (λ j h. Within (d + 1) j h × (closer j ≡ mark_of close)) o' (closed_list (coming k)) g m k m' r → ToldList (Closed close d) o (closed_list (coming k)) f n k m' r
+    → feed_source g ≡ feed_source f → ToldList (λ j h. Within d j h × (closer j ≡ mark_of close)) o' (closed_list (coming k)) g m k m' r → ToldList (Closed close d) o (closed_list (coming k)) f n k m' r
 listed_by {k = k} {m' = m'} {d = d} (Ok x) kept b s a = record {
   kept = kept;
   goes = record {
     stored = a.goes.stored;
-    goes = λ j h w. b j h w.mark ∙ a.goes.goes j h (record { deep = let e = w.deep in omega (arith, e) }, w.mark) ∙ ap (λ src. closed_list (coming k) (phrase src (arena_nodes m') x).exprs j h) s;
+    goes = λ j h w. b j h w.mark ∙ a.goes.goes j h (record { deep = w.deep }, w.mark) ∙ ap (λ src. closed_list (coming k) (phrase src (arena_nodes m') x).exprs j h) s;
   };
 }
-listed_by (Err y) kept b s a = record { kept = kept; goes = λ j h w. ap judged (b j h w.mark) ∙ a.goes j h (record { deep = let e = w.deep in omega (arith, e) }, w.mark) }
+listed_by (Err y) kept b s a = record { kept = kept; goes = λ j h w. ap judged (b j h w.mark) ∙ a.goes j h (record { deep = w.deep }, w.mark) }
 
 pub listed_items : {f g g' k : Feed} {n m m' : Arena} {i d : ℕ} (close : Mark) (r : Result ℕ Stop) → Opened f n g m i → coming g' ≡ coming g → Another close (coming g) → feed_source g' ≡ feed_source g
-    → ToldList (λ j h. Within (d + 1) j h × (closer j ≡ mark_of close)) (in_list (coming g') (phrase (feed_source g') (arena_nodes m) i).exprs) (closed_list (coming k)) g' m k m' r
+    → ToldList (λ j h. Within d j h × (closer j ≡ mark_of close)) (in_list (coming g') (phrase (feed_source g') (arena_nodes m) i).exprs) (closed_list (coming k)) g' m k m' r
     → ToldList (Closed close d) (λ j h. limited 64 (drop 1 (coming f)) (first j h)) (closed_list (coming k)) f n k m' r
 listed_items {f} {g} {g'} {k} {n} {m} {m'} {i} {d} close r o still u s a =
     let kept = kept_then o.kept (kept_then (kept_still m still s) a.kept) in

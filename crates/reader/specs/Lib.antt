@@ -14,6 +14,7 @@ pub mod Parameters
 pub mod Leading
 pub mod Places
 pub mod Levels
+pub mod Parsers
 pub mod Statements
 pub mod Words
 pub mod Lines

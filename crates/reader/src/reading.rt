@@ -9,7 +9,7 @@ ghost use Rattle.reader.specs.Answers.{AnswerHolds, NothingLeft, answer_verdict,
 use crate::answers::{Refusal, Routine};
 use crate::bodies::Body;
 use crate::feeds::Feed;
-use crate::programs::program;
+use crate::parsers::Parser;
 use crate::refusals::Stop;
 use crate::tables::Reader;
 use arena::arenas::Arena;
@@ -43,8 +43,18 @@ fn read_short(arena: &mut Arena, slots: &mut [usize], source: &[u8]) -> Result<R
     ensures verdict { answer_verdict source.now (arena_nodes arena.new) result ≡ reading source.now }
     ensures limit { arena_limit arena.new ≡ arena_limit arena.old }
 {
-    let mut feed = Feed::new(Lexer::new(source, slots));
-    match program(&mut feed, arena) {
+    let feed = Feed::new(Lexer::new(source, slots));
+    let mut parser = Parser {
+        feed,
+        arena: arena.take(),
+    };
+    let read = parser.program();
+    let Parser {
+        feed: _,
+        arena: filled,
+    } = parser;
+    *arena = filled;
+    match read {
         Ok(
             Body {
                 declarations,

@@ -8,12 +8,10 @@ ghost use Rattle.reader.specs.Kinds.{next_token};
 ghost use Rattle.reader.specs.Marks.{is_marked};
 ghost use Rattle.reader.specs.Taking.{Bars, CameTold, MarkTold, NameTold, PassTold};
 ghost use Rattle.reader.specs.Stops.{stop_of};
-ghost use Rattle.reader.specs.Levels.{IndentTold, IndentedTold, RoundTold};
 
 use crate::feeds::Feed;
 use crate::kinds::{Kind, Mark, Next};
 use crate::refusals::Stop;
-use crate::types::MOST_LEVELS;
 use arena::arenas::Arena;
 use arena::nodes::{Node, Stretch};
 
@@ -75,7 +73,7 @@ pub(crate) fn nested(next: Next) -> Stop
 }
 
 // Whether the next token is this mark.
-fn is_mark(next: Next, mark: Mark) -> bool
+pub(crate) fn is_mark(next: Next, mark: Mark) -> bool
     ensures { result ≡ is_marked next.kind mark }
 {
     match next.kind {
@@ -92,128 +90,72 @@ fn is_mark(next: Next, mark: Mark) -> bool
     }
 }
 
-// Takes a mark that must come.
-pub(crate) fn take_mark(feed: &mut Feed<'_, '_>, mark: Mark) -> Result<(), Stop>
-    ensures told { MarkTold mark (coming feed.old) (coming feed.new) result }
-    ensures source { feed_source feed.new ≡ feed_source feed.old }
-{
-    let Some(next) = feed.next() else {
-        return Err(Stop::Unfinished);
-    };
-    if is_mark(next, mark) {
-        feed.advance();
-        Ok(())
-    } else {
-        Err(stop_at(next))
-    }
-}
-
-// Takes a name that must come.
-pub(crate) fn take_name(feed: &mut Feed<'_, '_>) -> Result<Stretch, Stop>
-    ensures told { NameTold (feed_source feed.old) (coming feed.old) (coming feed.new) result }
-    ensures source { feed_source feed.new ≡ feed_source feed.old }
-{
-    let Some(next) = feed.next() else {
-        return Err(Stop::Unfinished);
-    };
-    match next.kind {
-        Kind::Name(len) => {
-            feed.advance();
-            Ok(Stretch {
-                at: next.place,
-                len,
-            })
-        }
-        Kind::Text(_)
-        | Kind::Constant(_)
-        | Kind::Dot
-        | Kind::LeftRound
-        | Kind::LeftSquare
-        | Kind::Not
-        | Kind::Operator(_)
-        | Kind::Mark(_)
-        | Kind::Fault(_) => Err(stop_at(next)),
-    }
-}
-
-// Takes a mark that may come, and tells its place.
-pub(crate) fn take_if(feed: &mut Feed<'_, '_>, mark: Mark) -> Option<usize>
-    ensures told { CameTold mark (coming feed.old) (coming feed.new) result }
-    ensures source { feed_source feed.new ≡ feed_source feed.old }
-{
-    let Some(next) = feed.next() else {
-        return None;
-    };
-    if is_mark(next, mark) {
-        feed.advance();
-        Some(next.place)
-    } else {
-        None
-    }
-}
-
-// Takes a mark that may come, and tells whether it came.
-pub(crate) fn passes(feed: &mut Feed<'_, '_>, mark: Mark) -> bool
-    ensures told { PassTold mark (coming feed.old) (coming feed.new) result }
-    ensures source { feed_source feed.new ≡ feed_source feed.old }
-{
-    take_if(feed, mark).is_some()
-}
-
-// Takes an INDENT that must come, and opens a level.
-fn take_indent(feed: &mut Feed<'_, '_>, depth: usize) -> Result<(), Stop>
-    requires deep { depth ≤ 64 }
-    ensures told { IndentTold depth feed.old feed.new result }
-    ensures below { OnOk result (depth < 64) }
-{
-    let Some(next) = feed.next() else {
-        return Err(Stop::Unfinished);
-    };
-    if !is_mark(next, Mark::Indent) {
-        return Err(stop_at(next));
-    }
-    if depth >= MOST_LEVELS {
-        return Err(too_deep(next));
-    }
-    feed.advance();
-    Ok(())
-}
-
-// Takes the end of a line and the INDENT after it.
-pub(crate) fn take_indented(feed: &mut Feed<'_, '_>, depth: usize) -> Result<(), Stop>
-    requires deep { depth ≤ 64 }
-    ensures told { IndentedTold depth feed.old feed.new result }
-    ensures below { OnOk result (depth < 64) }
-{
-    take_mark(feed, Mark::Newline)?;
-    take_indent(feed, depth)
-}
-
-// Takes a parenthesis that must come, and opens a level.
-pub(crate) fn take_round(feed: &mut Feed<'_, '_>, depth: usize) -> Result<(), Stop>
-    requires deep { depth ≤ 64 }
-    ensures told { RoundTold depth feed.old feed.new result }
-    ensures below { OnOk result (depth < 64) }
-{
-    let Some(next) = feed.next() else {
-        return Err(Stop::Unfinished);
-    };
-    match next.kind {
-        Kind::LeftRound => {
-            if depth == MOST_LEVELS {
-                return Err(too_deep(next));
-            }
-            feed.advance();
+impl Feed<'_, '_> {
+    // Takes a mark that must come.
+    pub(crate) fn take_mark(&mut self, mark: Mark) -> Result<(), Stop>
+        ensures told { MarkTold mark (coming self.old) (coming self.new) result }
+        ensures source { feed_source self.new ≡ feed_source self.old }
+    {
+        let Some(next) = self.next() else {
+            return Err(Stop::Unfinished);
+        };
+        if is_mark(next, mark) {
+            self.advance();
             Ok(())
+        } else {
+            Err(stop_at(next))
         }
-        Kind::Name(_)
-        | Kind::Text(_)
-        | Kind::Constant(_)
-        | Kind::Dot
-        | Kind::LeftSquare
-        | Kind::Not
-        | Kind::Operator(_)
-        | Kind::Mark(_)
-        | Kind::Fault(_) => Err(stop_at(next)),
+    }
+
+    // Takes a name that must come.
+    pub(crate) fn take_name(&mut self) -> Result<Stretch, Stop>
+        ensures told { NameTold (feed_source self.old) (coming self.old) (coming self.new) result }
+        ensures source { feed_source self.new ≡ feed_source self.old }
+    {
+        let Some(next) = self.next() else {
+            return Err(Stop::Unfinished);
+        };
+        match next.kind {
+            Kind::Name(len) => {
+                self.advance();
+                Ok(Stretch {
+                    at: next.place,
+                    len,
+                })
+            }
+            Kind::Text(_)
+            | Kind::Constant(_)
+            | Kind::Dot
+            | Kind::LeftRound
+            | Kind::LeftSquare
+            | Kind::Not
+            | Kind::Operator(_)
+            | Kind::Mark(_)
+            | Kind::Fault(_) => Err(stop_at(next)),
+        }
+    }
+
+    // Takes a mark that may come, and tells its place.
+    pub(crate) fn take_if(&mut self, mark: Mark) -> Option<usize>
+        ensures told { CameTold mark (coming self.old) (coming self.new) result }
+        ensures source { feed_source self.new ≡ feed_source self.old }
+    {
+        let Some(next) = self.next() else {
+            return None;
+        };
+        if is_mark(next, mark) {
+            self.advance();
+            Some(next.place)
+        } else {
+            None
+        }
+    }
+
+    // Takes a mark that may come, and tells whether it came.
+    pub(crate) fn passes(&mut self, mark: Mark) -> bool
+        ensures told { PassTold mark (coming self.old) (coming self.new) result }
+        ensures source { feed_source self.new ≡ feed_source self.old }
+    {
+        self.take_if(mark).is_some()
     }
 }

@@ -34,33 +34,33 @@ others m r e (inr (inr k)) = λ x y ds p. head_is m Head.Nothing (sym k ∙ e) x
 
 pub returns-in_err-function-in-Def : goal.returns-in_err-function-in-Def
 returns-in_err-function-in-Def c =
-    let f = c.args.feed.now in
+    let f = c.args.parser.now.feed in
     let g = c.advance.new.self in
     let next = c.args.next in
     let is : c.args.mark ≡ Mark.Def = head_is c.args.mark Head.Def c.in-Def.ensures in
     let begun : Passed (at (tree.mark tree.def) next.place) f g = passed (word_here f next Mark.Def c.args.mark is c.requires.facing c.requires.kind) c.advance.ensures.coming c.advance.ensures.source in
-    declaration_stop {P = IsProgram} {d = c.args.depth} outer_at begun (λ x. def_comes x.owner x.owned x.declared next.place (coming g)) c.from_residual.result _ c.from_residual.ensures.1 c.in_err-function-in-Def.ensures
+    declaration_stop {P = IsProgram} {d = c.args.depth.levels} outer_at begun (λ x. def_comes x.owner x.owned x.declared next.place (coming g)) c.from_residual.result _ c.from_residual.ensures.1 c.in_err-function-in-Def.ensures
 
 pub returns-in_err-worded-in-Global : goal.returns-in_err-worded-in-Global
 returns-in_err-worded-in-Global c =
-    let f = c.args.feed.now in
+    let f = c.args.parser.now.feed in
     let m = c.args.mark in
     word_stop {P = IsProgram} m (others m c.of.result c.of.ensures c.in-Global.is) (word_here f c.args.next m m refl c.requires.facing c.requires.kind) c.from_residual-in_err-worded-in-Global.result _
     c.from_residual-in_err-worded-in-Global.ensures.1 c.in_err-worded-in-Global.ensures
 
 pub returns-in_ok-function-in-Def : goal.returns-in_ok-function-in-Def
 returns-in_ok-function-in-Def c =
-    let f = c.args.feed.now in
+    let f = c.args.parser.now.feed in
     let g = c.advance.new.self in
     let next = c.args.next in
     let i = c.in_ok-function-in-Def.field-0 in
     let is : c.args.mark ≡ Mark.Def = head_is c.args.mark Head.Def c.in-Def.ensures in
     let begun : Passed (at (tree.mark tree.def) next.place) f g = passed (word_here f next Mark.Def c.args.mark is c.requires.facing c.requires.kind) c.advance.ensures.coming c.advance.ensures.source in
-    declaration_told {P = IsProgram} {d = c.args.depth} outer_at begun (λ x. def_comes x.owner x.owned x.declared next.place (coming g)) i c.in_ok-function-in-Def.ensures
-    (λ x. ap (limited 64 (coming c.function.new.feed)) (joined x.owner x.declared (phrase (feed_source g) (arena_nodes c.function.new.arena) i).decl))
+    declaration_told {P = IsProgram} {d = c.args.depth.levels} outer_at begun (λ x. def_comes x.owner x.owned x.declared next.place (coming g)) i c.in_ok-function-in-Def.ensures
+    (λ x. ap (limited 64 (coming c.function.new.self.feed)) (joined x.owner x.declared (phrase (feed_source g) (arena_nodes c.function.new.self.arena) i).decl))
 
 pub returns-in_ok-worded-in-Global : goal.returns-in_ok-worded-in-Global
 returns-in_ok-worded-in-Global c =
-    let f = c.args.feed.now in
+    let f = c.args.parser.now.feed in
     let m = c.args.mark in
     word_told {P = IsProgram} m (others m c.of.result c.of.ensures c.in-Global.is) (word_here f c.args.next m m refl c.requires.facing c.requires.kind) c.in_ok-worded-in-Global.field-0 c.in_ok-worded-in-Global.ensures
