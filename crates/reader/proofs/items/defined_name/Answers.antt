@@ -1,9 +1,9 @@
-use Rattle.std.proofs.Common.{◌≡◌, ℕ, ◌⊎◌, true, List, [], ◌∷◌, Some, sym, subst, ◌∙◌, refl, ap, inl, inr}
+use Rattle.std.proofs.Common.{◌≡◌, ℕ, ◌⊎◌, true, List, [], ◌∷◌, slice_get, Some, sym, subst, ◌∙◌, refl, ap, inl, inr}
 use mathlib.Core.Option.{none}
 use Rattle.arena.specs.declared.nodes.PrefixOperator.{PrefixOperator}
 use Rattle.arena.proofs.Growth.{trees_stand}
 use Rattle.arena.specs.Order.{ordered}
-use Rattle.arena.specs.Tables.{arena_nodes, node_at}
+use Rattle.arena.specs.Tables.{arena_nodes}
 use Rattle.arena.specs.Trees.{Phrase, phrase, spelled}
 use Rattle.arena.specs.declared.nodes.Node.{Node}
 use Rattle.arena.specs.declared.nodes.Stretch.{Stretch}
@@ -68,7 +68,7 @@ pub returns-in-Member : goal.returns-in-Member
 returns-in-Member c = let r = c.args.read in record { told = (refl, (λ e b. unnamed e b r.place r.form (coming c.args.feed.now) c.in-Member.is)); source = refl }
 
 -- the name's node stands for a variable at its place
-named_here : (ns : List Node) (r : Read) (name : Stretch) → ordered 0 ns ≡ true → r.form ≡ Form.Named → NamedBy ns r → node_at ns r.node ≡ Some (Node.Variable name)
+named_here : (ns : List Node) (r : Read) (name : Stretch) → ordered 0 ns ≡ true → r.form ≡ Form.Named → NamedBy ns r → slice_get ns r.node ≡ Some (Node.Variable name)
     → (name.at ≡ r.place) × ((src : List ℕ) → (phrase src ns r.node).expr ≡ tree.var r.place (spelled src name))
 named_here ns r name sorted is named here =
     let k : NamedAt ns Form.Named r.place r.node = subst (λ f. NamedAt ns f r.place r.node) is named in
