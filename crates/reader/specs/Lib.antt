@@ -1,5 +1,4 @@
 pub mod Kinds
-pub mod Marks
 pub mod Feeds
 pub mod Forms
 pub mod Stops

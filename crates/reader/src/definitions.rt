@@ -7,7 +7,6 @@ ghost use Rattle.reader.specs.Keeping.{Kept, Room};
 
 use crate::feeds::Feed;
 use crate::kinds::{Kind, Mark};
-use crate::making::literal;
 use crate::refusals::Stop;
 use crate::taking::{stop_at, store, take_mark};
 use crate::types::annotation;
@@ -35,7 +34,7 @@ fn take_literal(feed: &mut Feed<'_, '_>) -> Result<PlacedLiteral, Stop>
             feed.advance();
             Ok(PlacedLiteral {
                 place,
-                literal: literal(constant),
+                literal: constant.into(),
             })
         }
         Kind::Text(len) => {

@@ -277,7 +277,7 @@ fn binary(
     requires tight { nat_le (tree.left (tree.rank (binary_of operator))) (tight_of read.form) ≡ true }
     ensures { Told (Loose (tree.level (tree.rank (binary_of operator))) depth) (having (feed_source feed.old) (arena_nodes arena.old) read) feed.old arena.old feed.new arena.new result }
 {
-    let rank = Rank::of(operator);
+    let rank = Rank::from(operator);
     feed.advance();
     let right = expression(feed, arena, rank.level() + 1, depth)?;
     Ok(made(

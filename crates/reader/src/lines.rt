@@ -68,11 +68,7 @@ fn is_assigned(feed: &mut Feed<'_, '_>, form: Form) -> bool
     ensures told { AssignedTold form (coming feed.old) (coming feed.new) result }
     ensures source { feed_source feed.new ≡ feed_source feed.old }
 {
-    if form.is_target() {
-        passes(feed, Mark::Assign)
-    } else {
-        false
-    }
+    form.is_target() && passes(feed, Mark::Assign)
 }
 
 // What goes on with the first expression of a line that begins at `place`: the expression is assigned to, or stands alone.

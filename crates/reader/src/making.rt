@@ -16,14 +16,16 @@ use crate::taking::store;
 use arena::arenas::Arena;
 use arena::nodes::{BinaryOperator, Literal, Node, PrefixOperator, Quotation, Stretch};
 
-pub(crate) fn literal(constant: Constant) -> Literal
-    ensures { (src : List ℕ) → literal_of src result ≡ constant_of constant }
-{
-    match constant {
-        Constant::None => Literal::None,
-        Constant::True => Literal::True,
-        Constant::False => Literal::False,
-        Constant::Integer(value) => Literal::Integer(value),
+impl From<Constant> for Literal {
+    ghost from_gives = { λ constant literal. (src : List ℕ) → literal_of src literal ≡ constant_of constant };
+
+    fn from(constant: Constant) -> Literal {
+        match constant {
+            Constant::None => Literal::None,
+            Constant::True => Literal::True,
+            Constant::False => Literal::False,
+            Constant::Integer(value) => Literal::Integer(value),
+        }
     }
 }
 
@@ -40,7 +42,7 @@ pub(crate) fn start_of(next: Next) -> Start
             at: next.place,
             len,
         })),
-        Kind::Constant(constant) => Start::Constant(literal(constant)),
+        Kind::Constant(constant) => Start::Constant(constant.into()),
         Kind::LeftRound => Start::Group,
         Kind::LeftSquare => Start::List,
         Kind::Not => Start::Sign(PrefixOperator::Not),
@@ -66,14 +68,8 @@ pub(crate) fn start_of(next: Next) -> Start
 fn is_operated(operator: BinaryOperator, form: Form, asks: usize) -> bool
     ensures { result ≡ (nat_le asks (tree.level (tree.rank (binary_of operator))) && nat_le (tree.left (tree.rank (binary_of operator))) (tight_of form)) }
 {
-    let rank = Rank::of(operator);
+    let rank = Rank::from(operator);
     asks <= rank.level() && rank.left() <= form.tight()
-}
-
-fn growth_if(holds: bool, growth: Growth) -> Option<Growth>
-    ensures { result ≡ (if holds then Some growth else None) }
-{
-    if holds { Some(growth) } else { None }
 }
 
 // What a token of this kind adds to an expression of this form, where one must be as tight as `asks`.
@@ -81,13 +77,12 @@ pub(crate) fn growth_of(kind: Kind, form: Form, asks: usize) -> Option<Growth>
     ensures { result ≡ growth_of kind form asks }
 {
     match kind {
-        Kind::Dot => growth_if(8 <= form.tight(), Growth::Member),
-        Kind::LeftRound => growth_if(form.is_callable(), Growth::Call),
-        Kind::LeftSquare => growth_if(8 <= form.tight(), Growth::Index),
-        Kind::Operator(operator) => growth_if(
-            is_operated(operator, form, asks),
-            Growth::Operator(operator),
-        ),
+        Kind::Dot => (8 <= form.tight()).then_some(Growth::Member),
+        Kind::LeftRound => form.is_callable().then_some(Growth::Call),
+        Kind::LeftSquare => (8 <= form.tight()).then_some(Growth::Index),
+        Kind::Operator(operator) => is_operated(operator, form, asks).then_some(Growth::Operator(
+            operator,
+        )),
         Kind::Name(_)
         | Kind::Text(_)
         | Kind::Constant(_)

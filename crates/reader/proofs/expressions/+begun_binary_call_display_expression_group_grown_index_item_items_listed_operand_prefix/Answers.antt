@@ -167,7 +167,7 @@ binary-returns-in_err-right t c =
     let e = (phrase src (arena_nodes n) x.node).expr in
     let face = faced src c.args.next (coming f) (Kind.Operator o) c.requires.facing c.requires.kind in
     let p = passed {f = f} {g = g} face c.advance.ensures.coming c.advance.ensures.source in
-    let level : c.level.result ≡ tree.level (tree.rank (binary_of o)) = c.level.ensures.value ∙ ap tree.level c.of-rank.ensures in
+    let level : c.level.result ≡ tree.level (tree.rank (binary_of o)) = c.level.ensures.value ∙ ap tree.level c.from-rank.ensures in
     let tight = ap (leb (tree.left (tree.rank (binary_of o)))) (tight_same x.form e) ∙ c.requires.tight in
     let told = c.in_err-right.ensures.told in
     exit c.from_residual.result _ c.from_residual.ensures.1 (kept_then (kept_passed n p) told.kept)
@@ -188,7 +188,7 @@ binary-made-requires t c =
     let e = (phrase src (arena_nodes n) x.node).expr in
     let face = faced src c.args.next (coming f) (Kind.Operator o) c.requires.facing c.requires.kind in
     let p = passed {f = f} {g = g} face c.advance.ensures.coming c.advance.ensures.source in
-    let level : c.level.result ≡ tree.level (tree.rank (binary_of o)) = c.level.ensures.value ∙ ap tree.level c.of-rank.ensures in
+    let level : c.level.result ≡ tree.level (tree.rank (binary_of o)) = c.level.ensures.value ∙ ap tree.level c.from-rank.ensures in
     let tight = ap (leb (tree.left (tree.rank (binary_of o)))) (tight_same x.form e) ∙ c.requires.tight in
     let told = c.in_ok-right.ensures.told in
     let long = passed_long p in
@@ -210,7 +210,7 @@ binary-returns t c =
     let e = (phrase src (arena_nodes n) x.node).expr in
     let face = faced src c.args.next (coming f) (Kind.Operator o) c.requires.facing c.requires.kind in
     let p = passed {f = f} {g = g} face c.advance.ensures.coming c.advance.ensures.source in
-    let level : c.level.result ≡ tree.level (tree.rank (binary_of o)) = c.level.ensures.value ∙ ap tree.level c.of-rank.ensures in
+    let level : c.level.result ≡ tree.level (tree.rank (binary_of o)) = c.level.ensures.value ∙ ap tree.level c.from-rank.ensures in
     let tight = ap (leb (tree.left (tree.rank (binary_of o)))) (tight_same x.form e) ∙ c.requires.tight in
     let told = c.in_ok-right.ensures.told in
     let ends = c.in_ok-right.ensures.ends in
@@ -229,9 +229,9 @@ binary-returns t c =
     ∙ joins i (form_of x.form e) e h (binary_of o) c.args.next.place (coming g) (le-leb (asks h) (tree.level (tree.rank (binary_of o))) a) tight
     ∙ told.goes.goes (rhs i (binary_of o) e h) spot
     ∙ sheds_op y.place (form_of y.form e') e' i (binary_of o) e h us (ends (rhs i (binary_of o) e h) spot)
-    ∙ ap (λ r. limited 64 us (have i (tree.binary r) (tree.bin i (binary_of o) e e') h)) (sym c.of-rank.ensures)
-    ∙ ap (λ a'. limited 64 us (have i (tree.binary (rank_of c.of-rank.result)) (tree.bin i (binary_of o) a'.expr e') h)) (sym (kept_phrase src x.node kept c.requires.stored))
-    ∙ ap (λ s. limited 64 us (have i (tree.binary (rank_of c.of-rank.result)) (tree.bin i (binary_of o) (phrase src ns x.node).expr (phrase s ns y.node).expr) h)) p.source)
+    ∙ ap (λ r. limited 64 us (have i (tree.binary r) (tree.bin i (binary_of o) e e') h)) (sym c.from-rank.ensures)
+    ∙ ap (λ a'. limited 64 us (have i (tree.binary (rank_of c.from-rank.result)) (tree.bin i (binary_of o) a'.expr e') h)) (sym (kept_phrase src x.node kept c.requires.stored))
+    ∙ ap (λ s. limited 64 us (have i (tree.binary (rank_of c.from-rank.result)) (tree.bin i (binary_of o) (phrase src ns x.node).expr (phrase s ns y.node).expr) h)) p.source)
 
 pub call-made-requires : goal.call-made-requires
 call-made-requires t c =
