@@ -35,28 +35,7 @@ back tree.unused = Mark.Unused
 
 back_of : (m : Mark) → back (mark_of m) ≡ m
 back_of Mark.RightRound = refl
-back_of Mark.RightSquare = refl
-back_of Mark.Comma = refl
-back_of Mark.Assign = refl
-back_of Mark.Colon = refl
-back_of Mark.Arrow = refl
-back_of Mark.Newline = refl
-back_of Mark.Indent = refl
-back_of Mark.Dedent = refl
-back_of Mark.End = refl
-back_of Mark.Class = refl
-back_of Mark.Def = refl
-back_of Mark.Global = refl
-back_of Mark.Nonlocal = refl
-back_of Mark.Pass = refl
-back_of Mark.Return = refl
-back_of Mark.If = refl
-back_of Mark.Elif = refl
-back_of Mark.Else = refl
-back_of Mark.While = refl
-back_of Mark.For = refl
-back_of Mark.In = refl
-back_of Mark.Unused = refl
+back_of _ = refl
 
 same_mark : (m k : Mark) → mark_of m ≡ mark_of k → m ≡ k
 same_mark m k e = sym (back_of m) ∙ ap back e ∙ back_of k
@@ -75,13 +54,5 @@ taken m s q = given_yes (mark_discrete (mark_of m) (mark_of m)) (s q) refl
 
 -- a token that is another
 pub unmarked : (src : List ℕ) (p : ℕ) (k : Kind) (m : Mark) → (k ≡ Kind.Mark m → ⊥) → (s : ℕ → State) → expect (mark_of m) s (at (kind_model src p k) p) ≡ none
-unmarked src p (Kind.Name n) m other s = refl
-unmarked src p (Kind.Text n) m other s = refl
-unmarked src p (Kind.Constant l) m other s = refl
-unmarked src p Kind.Dot m other s = refl
-unmarked src p Kind.LeftRound m other s = refl
-unmarked src p Kind.LeftSquare m other s = refl
-unmarked src p Kind.Not m other s = refl
-unmarked src p (Kind.Operator o) m other s = refl
 unmarked src p (Kind.Mark k) m other s = given_no (mark_discrete (mark_of m) (mark_of k)) (s p) (λ e. other (ap Kind.Mark (sym (same_mark m k e))))
-unmarked src p (Kind.Fault f) m other s = refl
+unmarked src p _ m other s = refl

@@ -14,12 +14,10 @@ pub mod Leading
 pub mod Places
 pub mod Levels
 pub mod Statements
-pub mod Words
 pub mod Lines
 pub mod Functions
 pub mod Classes
 pub mod Owners
 pub mod Bodies
-pub mod Heads
 pub mod Defining
 pub mod Answers

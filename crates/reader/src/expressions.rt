@@ -17,13 +17,13 @@ ghost use Rattle.reader.specs.Told.{Deep, Ends, Loose, Made, Spot, Told, having}
 use crate::feeds::Feed;
 use crate::forms::{Form, Rank, Read};
 use crate::kinds::{Kind, Mark, Next};
-use crate::making::{growth_of, made, start_of};
+use crate::making::{growth_of, made};
 use crate::refusals::Stop;
-use crate::starts::{Growth, Start};
+use crate::growths::Growth;
 use crate::taking::{passes, stop_at, store, take_mark, take_name, too_deep};
 use crate::types::MOST_LEVELS;
 use arena::arenas::Arena;
-use arena::nodes::{BinaryOperator, Node, PrefixOperator};
+use arena::nodes::{BinaryOperator, Literal, Node, PrefixOperator, Quotation, Stretch};
 
 // Takes the token here, which is an expression by itself.
 fn leaf(feed: &mut Feed<'_, '_>, arena: &mut Arena, place: usize, form: Form, node: Node) -> Read
@@ -95,22 +95,44 @@ fn begun(
     requires facing { NextTold (feed_source feed.old) (coming feed.old) (Some next) }
     ensures { Told (Spot asks depth) want feed.old arena.old feed.new arena.new result }
 {
-    match start_of(next) {
-        Start::Name(name) => Ok(leaf(feed, arena, name.at, Form::Named, Node::Variable { name })),
-        Start::Constant(literal) => Ok(leaf(
+    let place = next.place;
+    match next.kind {
+        Kind::Name(len) => {
+            let name = Stretch { at: place, len };
+            Ok(leaf(feed, arena, place, Form::Named, Node::Variable { name }))
+        }
+        Kind::Text(len) => {
+            let literal = Literal::Text(Quotation { at: place, len });
+            Ok(leaf(
+                feed,
+                arena,
+                place,
+                Form::Closed,
+                Node::Constant { place, literal },
+            ))
+        }
+        Kind::Constant(constant) => {
+            let literal = constant.into();
+            Ok(leaf(
+                feed,
+                arena,
+                place,
+                Form::Closed,
+                Node::Constant { place, literal },
+            ))
+        }
+        Kind::Not => prefix(feed, arena, next, PrefixOperator::Not, asks, depth),
+        Kind::Operator(BinaryOperator::Minus) => prefix(
             feed,
             arena,
-            next.place,
-            Form::Closed,
-            Node::Constant {
-                place: next.place,
-                literal,
-            },
-        )),
-        Start::Sign(operator) => prefix(feed, arena, next, operator, asks, depth),
-        Start::Group => group(feed, arena, next, depth),
-        Start::List => display(feed, arena, next, depth),
-        Start::Nothing => Err(stop_at(next)),
+            next,
+            PrefixOperator::Negate,
+            asks,
+            depth,
+        ),
+        Kind::LeftRound => group(feed, arena, next, depth),
+        Kind::LeftSquare => display(feed, arena, next, depth),
+        Kind::Operator(_) | Kind::Dot | Kind::Mark(_) | Kind::Fault(_) => Err(stop_at(next)),
     }
 }
 

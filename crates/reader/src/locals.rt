@@ -3,7 +3,6 @@ ghost use Rattle.reader.specs.Owners.{IsFunction};
 
 use crate::feeds::Feed;
 use crate::functions::global;
-use crate::heads::Head;
 use crate::items::Item;
 use crate::kinds::{Mark, Next};
 use crate::refusals::Stop;
@@ -28,15 +27,13 @@ impl Scope for Local {
         mark: Mark,
         depth: usize,
     ) -> Result<Item, Stop> {
-        match Head::of(mark) {
-            Head::Def | Head::Nonlocal => Err(nested(next)),
-            Head::Global => {
+        match mark {
+            Mark::Def | Mark::Nonlocal => Err(nested(next)),
+            Mark::Global => {
                 feed.advance();
                 Ok(Item::Declaration(global(feed, arena, next.place, depth)?))
             }
-            Head::Class | Head::Nothing => Ok(Item::Statement(worded(
-                feed, arena, next, mark, depth,
-            )?)),
+            _ => Ok(Item::Statement(worded(feed, arena, next, mark, depth)?)),
         }
     }
 }

@@ -6,15 +6,15 @@ ghost use Rattle.grammar.specs.Tree as tree;
 ghost use Rattle.reader.specs.Forms.{tight_of};
 ghost use Rattle.reader.specs.Kinds.{constant_of};
 ghost use Rattle.arena.specs.Tables.{arena_limit, arena_nodes};
-ghost use Rattle.reader.specs.Growing.{Shown, growth_of};
+ghost use Rattle.reader.specs.Growing.{growth_of};
 ghost use Rattle.reader.specs.Told.{Made};
 
 use crate::forms::{Form, Rank, Read};
-use crate::kinds::{Constant, Kind, Next};
-use crate::starts::{Growth, Start};
+use crate::kinds::{Constant, Kind};
+use crate::growths::Growth;
 use crate::taking::store;
 use arena::arenas::Arena;
-use arena::nodes::{BinaryOperator, Literal, Node, PrefixOperator, Quotation, Stretch};
+use arena::nodes::{BinaryOperator, Literal, Node};
 
 impl From<Constant> for Literal {
     ghost from_gives = { λ constant literal. (src : List ℕ) → literal_of src literal ≡ constant_of constant };
@@ -26,41 +26,6 @@ impl From<Constant> for Literal {
             Constant::False => Literal::False,
             Constant::Integer(value) => Literal::Integer(value),
         }
-    }
-}
-
-// What a token begins where an operand must come.
-pub(crate) fn start_of(next: Next) -> Start
-    ensures { (src : List ℕ) → Shown src next result }
-{
-    match next.kind {
-        Kind::Name(len) => Start::Name(Stretch {
-            at: next.place,
-            len,
-        }),
-        Kind::Text(len) => Start::Constant(Literal::Text(Quotation {
-            at: next.place,
-            len,
-        })),
-        Kind::Constant(constant) => Start::Constant(constant.into()),
-        Kind::LeftRound => Start::Group,
-        Kind::LeftSquare => Start::List,
-        Kind::Not => Start::Sign(PrefixOperator::Not),
-        Kind::Operator(operator) => match operator {
-            BinaryOperator::Minus => Start::Sign(PrefixOperator::Negate),
-            BinaryOperator::Or | BinaryOperator::And | BinaryOperator::Is => Start::Nothing,
-            BinaryOperator::Plus
-            | BinaryOperator::Times
-            | BinaryOperator::Divide
-            | BinaryOperator::Remainder => Start::Nothing,
-            BinaryOperator::Equal
-            | BinaryOperator::Unequal
-            | BinaryOperator::Less
-            | BinaryOperator::Greater
-            | BinaryOperator::AtMost
-            | BinaryOperator::AtLeast => Start::Nothing,
-        },
-        Kind::Dot | Kind::Mark(_) | Kind::Fault(_) => Start::Nothing,
     }
 }
 

@@ -10,7 +10,6 @@ use crate::bodies::{Body, empty_body, whole_body};
 use crate::classes::class;
 use crate::feeds::Feed;
 use crate::functions::function;
-use crate::heads::Head;
 use crate::items::Item;
 use crate::kinds::{Mark, Next};
 use crate::refusals::Stop;
@@ -35,18 +34,16 @@ impl Scope for Whole {
         mark: Mark,
         depth: usize,
     ) -> Result<Item, Stop> {
-        match Head::of(mark) {
-            Head::Def => {
+        match mark {
+            Mark::Def => {
                 feed.advance();
                 Ok(Item::Declaration(function(feed, arena, next.place, depth)?))
             }
-            Head::Class => {
+            Mark::Class => {
                 feed.advance();
                 Ok(Item::Declaration(class(feed, arena, next.place)?))
             }
-            Head::Global | Head::Nonlocal | Head::Nothing => Ok(Item::Statement(worded(
-                feed, arena, next, mark, depth,
-            )?)),
+            _ => Ok(Item::Statement(worded(feed, arena, next, mark, depth)?)),
         }
     }
 }

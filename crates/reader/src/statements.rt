@@ -14,7 +14,6 @@ use crate::kinds::{Kind, Mark, Next};
 use crate::lines::{line, pass_line, return_line};
 use crate::refusals::Stop;
 use crate::taking::{passes, stop_at, store, take_if, take_indented, take_mark, take_name};
-use crate::verbs::Word;
 use arena::arenas::Arena;
 use arena::nodes::Node;
 
@@ -68,13 +67,13 @@ pub(crate) fn worded(
     requires kind { next.kind ≡ Kind.Mark mark }
     ensures { WordedTold depth feed.old arena.old feed.new arena.new result }
 {
-    match Word::of(mark) {
-        Word::Pass => pass_line(feed, arena, next, depth),
-        Word::Return => return_line(feed, arena, next, depth),
-        Word::If => if_statement(feed, arena, next, depth),
-        Word::While => while_statement(feed, arena, next, depth),
-        Word::For => for_statement(feed, arena, next, depth),
-        Word::Nothing => Err(stop_at(next)),
+    match mark {
+        Mark::Pass => pass_line(feed, arena, next, depth),
+        Mark::Return => return_line(feed, arena, next, depth),
+        Mark::If => if_statement(feed, arena, next, depth),
+        Mark::While => while_statement(feed, arena, next, depth),
+        Mark::For => for_statement(feed, arena, next, depth),
+        _ => Err(stop_at(next)),
     }
 }
 
