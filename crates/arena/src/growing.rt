@@ -1,10 +1,9 @@
 // How the table grows, and what it holds.
-ghost use Rattle.std.specs.Prelude.{◌≡◌, ◌<◌, [], length, IfOk, slice_index_or};
-ghost use Rattle.arena.specs.Tables.{arena_limit, arena_nodes, node_at, pushed};
+ghost use Rattle.std.specs.Prelude.{◌≡◌, [], IfOk, slice_get};
+ghost use Rattle.arena.specs.Tables.{arena_limit, arena_nodes, pushed};
 
 use crate::arenas::Arena;
 use crate::nodes::Node;
-use crate::order::is_before;
 use std::alloc::{AllocError, Global};
 use std::mem;
 
@@ -58,7 +57,7 @@ impl Arena {
         if index >= self.limit {
             return Err(ArenaError::Full);
         }
-        if !is_before(node, index) {
+        if !node.is_before(index) {
             return Err(ArenaError::LaterChild);
         }
         self.nodes.push_reserved(node);
@@ -67,19 +66,8 @@ impl Arena {
 
     // The node at an index.
     pub fn node(&self, index: usize) -> Option<Node>
-        ensures { result ≡ node_at (arena_nodes self.now) index }
+        ensures { result ≡ slice_get (arena_nodes self.now) index }
     {
-        if index < self.nodes.len() {
-            Some(self.stored(index))
-        } else {
-            None
-        }
-    }
-
-    fn stored(&self, index: usize) -> Node
-        requires { index < length (arena_nodes self.now) }
-        ensures { result ≡ slice_index_or (arena_nodes self.now) index result }
-    {
-        self.nodes[index]
+        self.nodes.get(index).copied()
     }
 }

@@ -7,7 +7,7 @@ use Rattle.arena.specs.declared.arenas.Arena.{Arena}
 use Rattle.arena.specs.declared.nodes.Node.TheVariants.{MoreStatements, NoStatements}
 use Rattle.grammar.specs.Tree as tree
 use Rattle.grammar.specs.Tree.{Expr, Form, Stmt, Stmts, Token, at}
-use Rattle.grammar.specs.Reader.{Body, Offer, State, add, arms, base, block_of, decls, eachs, either, ends, have, locals, loops, main, on, other, pick, start, vars, want, when}
+use Rattle.grammar.specs.Reader.{Body, Offer, State, add, arms, base, block_of, decls, eachs, either, ends, have, locals, loops, main, on, other, pick, start, stmts, vars, want, when}
 use Rattle.grammar.specs.Limits.{Reading, body_depth, limited, proceeds}
 use Rattle.grammar.specs.Verdict.{judged}
 use Rattle.reader.specs.Feeds.{coming, feed_source}
@@ -18,13 +18,11 @@ use Rattle.reader.specs.Statements.{BlockTold, Filled, GuardedTold, StatementTol
 use Rattle.reader.specs.Stops.{stop_of}
 use Rattle.reader.specs.Taking.{Another, Bars}
 use Rattle.reader.specs.Told.{Spot, Told, having, read_expr}
-use Rattle.reader.specs.Words.{Worded, word_of}
 use Rattle.reader.specs.declared.depths.Depth.{Depth}
 use Rattle.reader.specs.declared.feeds.Feed.{Feed}
 use Rattle.reader.specs.declared.forms.Read.{Read}
 use Rattle.reader.specs.declared.kinds.Mark.{Mark}
 use Rattle.reader.specs.declared.refusals.Stop.{Stop}
-use Rattle.reader.specs.declared.verbs.Word.{Word}
 use Rattle.reader.proofs.Leading.{Along, along, along_as, along_stored, got, led, stepped}
 use Rattle.reader.proofs.Refusing.{refused_here}
 use Rattle.reader.proofs.Steps.{Passed, kept_long, kept_phrase, kept_still, passed_long}
@@ -297,38 +295,28 @@ pub settled_told : {d : ℕ} {f g : Feed} {n m : Arena} (r : Result ℕ Stop) �
 settled_told (Ok i) t = record { kept = t.kept; leads = record { stored = t.leads.stored; spare = t.leads.spare; goes = λ x. t.leads.goes (of_settled x) } }
 settled_told (Err y) t = record { kept = t.kept; leads = λ x. t.leads (of_settled x) }
 
--- A mark is a word that begins a statement, or begins none.
-worded : (m : Mark) → Worded m (word_of m)
-worded Mark.RightRound = λ b p. refl
-worded Mark.RightSquare = λ b p. refl
-worded Mark.Comma = λ b p. refl
-worded Mark.Assign = λ b p. refl
-worded Mark.Colon = λ b p. refl
-worded Mark.Arrow = λ b p. refl
-worded Mark.Newline = λ b p. refl
-worded Mark.Indent = λ b p. refl
-worded Mark.Dedent = λ b p. refl
-worded Mark.End = λ b p. refl
-worded Mark.Class = λ b p. refl
-worded Mark.Def = λ b p. refl
-worded Mark.Global = λ b p. refl
-worded Mark.Nonlocal = λ b p. refl
-worded Mark.Pass = refl
-worded Mark.Return = refl
-worded Mark.If = refl
-worded Mark.Elif = λ b p. refl
-worded Mark.Else = λ b p. refl
-worded Mark.While = refl
-worded Mark.For = refl
-worded Mark.In = λ b p. refl
-worded Mark.Unused = λ b p. refl
+-- a mark that is none of the words that statements begin with
+pub record Wordless (m : Mark) : Type 0 where
+  pub no_pass : m ≡ Mark.Pass → ⊥
+  pub no_return : m ≡ Mark.Return → ⊥
+  pub no_if : m ≡ Mark.If → ⊥
+  pub no_while : m ≡ Mark.While → ⊥
+  pub no_for : m ≡ Mark.For → ⊥
 
-pub no_word : {d : ℕ} (m : Mark) (q : ℕ) (rest ts : List Token) (y : Stop) → word_of m ≡ Word.Nothing → ts ≡ at (tree.mark (mark_of m)) q ∷ rest → Bars (at (tree.mark (mark_of m)) q) y
+unstated : (m : Mark) → Wordless m → (b : Body) (p : ℕ) → pick (stmts b) (at (tree.mark (mark_of m)) p) ≡ none
+unstated Mark.Pass w b p = absurd (w.no_pass refl)
+unstated Mark.Return w b p = absurd (w.no_return refl)
+unstated Mark.If w b p = absurd (w.no_if refl)
+unstated Mark.While w b p = absurd (w.no_while refl)
+unstated Mark.For w b p = absurd (w.no_for refl)
+unstated _ w b p = refl
+
+pub no_word : {d : ℕ} (m : Mark) (q : ℕ) (rest ts : List Token) (y : Stop) → Wordless m → ts ≡ at (tree.mark (mark_of m)) q ∷ rest → Bars (at (tree.mark (mark_of m)) q) y
     → (x : BodyAt d ts) → judged (limited 64 ts (start x.body)) ≡ stop_of y
-no_word m q rest ts y e is bars x =
+no_word m q rest ts y w is bars x =
     let t = at (tree.mark (mark_of m)) q in
     let free = subst (Unclaimed x.body) is x.unclaimed in
     refused_here t rest ts (start x.body) y is
-    (ap (λ z. either z (either (pick (decls x.body) t) (either (pick (ends x.body) t) none))) (subst (Worded m) e (worded m) x.body q)
+    (ap (λ z. either z (either (pick (decls x.body) t) (either (pick (ends x.body) t) none))) (unstated m w x.body q)
     ∙ ap (λ z. either z (either (pick (ends x.body) t) none)) free.0 ∙ ap (λ z. either z none) free.1)
     bars

@@ -1,6 +1,6 @@
 -- How what is told of lists is put together.
-use Rattle.std.proofs.Common.{◌≡◌, ℕ, suc, ◌+◌, ◌*◌, ◌<◌, ◌≤◌, cond, List, [], ◌∷◌, ◌++◌, length, drop, IsErrAnd, IfOk, Ok, Err, Result, sym, refl, ap, ◌∙◌, subst, append_assoc, arith, length-append, eq-eqb}
-use mathlib.Core.Option.{none, some}
+use Rattle.std.proofs.Common.{◌≡◌, ℕ, suc, ◌+◌, ◌*◌, ◌<◌, ◌≤◌, List, [], ◌∷◌, ◌++◌, length, drop, IsErrAnd, IfOk, Ok, Err, Result, sym, refl, ap, ◌∙◌, subst, append_assoc, arith, length-append}
+use mathlib.Core.Option.{none}
 use Rattle.arena.proofs.Growth.{trees_stand}
 use Rattle.arena.specs.Tables.{arena_limit, arena_nodes}
 use Rattle.arena.specs.Trees.{over, phrase}
@@ -16,7 +16,6 @@ use Rattle.reader.specs.Feeds.{coming, feed_source}
 use Rattle.reader.specs.Forms.{form_of}
 use Rattle.reader.specs.Kinds.{mark_of}
 use Rattle.reader.specs.Lists.{Closed, ToldList, Within, between, closed_list, in_list}
-use Rattle.reader.specs.Marks.{mark_number}
 use Rattle.reader.specs.Taking.{Another, NoMark}
 use Rattle.reader.specs.Keeping.{Kept}
 use Rattle.reader.specs.Stops.{stop_of}
@@ -25,7 +24,7 @@ use Rattle.reader.specs.declared.feeds.Feed.{Feed}
 use Rattle.reader.specs.declared.forms.Read.{Read}
 use Rattle.reader.specs.declared.kinds.Mark.{Mark}
 use Rattle.reader.specs.declared.refusals.Stop.{Stop}
-use Rattle.reader.proofs.MarkFacts.{expected}
+use Rattle.reader.proofs.MarkFacts.{taken}
 use Rattle.reader.proofs.Steps.{Passed, kept_passed, kept_phrase, kept_still}
 use Rattle.reader.proofs.Storing.{kept_then}
 
@@ -127,10 +126,6 @@ unlisted m j h es (t ∷ us) y c u b =
     ap (λ x. judged (proceeds (limited 64 us) (exceeds 64 (sees (have 0 tree.closed (tree.con 0 tree.lit_none) (group j es h)) t)) t us x))
     (ap (λ x. either x (either (expect (closer j) s' t) none)) (u s) ∙ ap (λ x. either (expect x s' t) none) c ∙ ap (λ x. either x none) (b.0 s'))
     ∙ sym b.1
-
--- the mark that was to come
-taken : (m : Mark) (s : ℕ → State) (q : ℕ) → expect (mark_of m) s (at (tree.mark (mark_of m)) q) ≡ some (s q)
-taken m s q = expected m m s q ∙ ap (λ b. cond b (some (s q)) none) (eq-eqb (mark_number m) (mark_number m) refl)
 
 list_ends : (m : Mark) (j : Group) (h : Hole) (es : Exprs) (q : ℕ) (us : List Token) → closer j ≡ mark_of m → Another Mark.Comma (at (tree.mark (mark_of m)) q ∷ us)
     → between (at (tree.mark (mark_of m)) q ∷ us) es j h ≡ closed_list us es j h

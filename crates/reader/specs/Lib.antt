@@ -1,5 +1,4 @@
 pub mod Kinds
-pub mod Marks
 pub mod Feeds
 pub mod Forms
 pub mod Stops
@@ -16,12 +15,10 @@ pub mod Places
 pub mod Levels
 pub mod Parsers
 pub mod Statements
-pub mod Words
 pub mod Lines
 pub mod Functions
 pub mod Classes
 pub mod Owners
 pub mod Bodies
-pub mod Heads
 pub mod Defining
 pub mod Answers

@@ -8,7 +8,6 @@ ghost use Rattle.reader.specs.Keeping.{Kept};
 use crate::depths::Depth;
 use crate::feeds::Feed;
 use crate::kinds::{Kind, Mark};
-use crate::making::literal;
 use crate::parsers::Parser;
 use crate::refusals::Stop;
 use crate::taking::{stop_at, store};
@@ -36,7 +35,7 @@ impl Feed<'_, '_> {
                 self.advance();
                 Ok(PlacedLiteral {
                     place,
-                    literal: literal(constant),
+                    literal: constant.into(),
                 })
             }
             Kind::Text(len) => {

@@ -16,13 +16,13 @@ ghost use Rattle.reader.specs.Parsers.{Between};
 
 use crate::depths::Depth;
 use crate::forms::{Form, Rank, Read};
+use crate::growths::Growth;
 use crate::kinds::{Kind, Mark, Next};
-use crate::making::{growth_of, made, start_of};
+use crate::making::{growth_of, made};
 use crate::parsers::Parser;
 use crate::refusals::Stop;
-use crate::starts::{Growth, Start};
 use crate::taking::{stop_at, store};
-use arena::nodes::{BinaryOperator, Node, PrefixOperator};
+use arena::nodes::{BinaryOperator, Literal, Node, PrefixOperator, Quotation, Stretch};
 
 impl Parser<'_, '_> {
     // Takes the token here, which is an expression by itself.
@@ -70,20 +70,30 @@ impl Parser<'_, '_> {
         requires facing { NextTold (feed_source self.old.feed) (coming self.old.feed) (Some next) }
         ensures { Between (Told (Spot asks depth.levels) want) self.old self.new result }
     {
-        match start_of(next) {
-            Start::Name(name) => Ok(self.leaf(name.at, Form::Named, Node::Variable { name })),
-            Start::Constant(literal) => Ok(self.leaf(
-                next.place,
-                Form::Closed,
-                Node::Constant {
-                    place: next.place,
-                    literal,
-                },
-            )),
-            Start::Sign(operator) => self.prefix(next, operator, asks, depth),
-            Start::Group => self.group(next, depth),
-            Start::List => self.display(next, depth),
-            Start::Nothing => Err(stop_at(next)),
+        let place = next.place;
+        match next.kind {
+            Kind::Name(len) => {
+                let name = Stretch { at: place, len };
+                Ok(self.leaf(place, Form::Named, Node::Variable { name }))
+            }
+            Kind::Text(len) => {
+                let literal = Literal::Text(Quotation { at: place, len });
+                Ok(self.leaf(place, Form::Closed, Node::Constant { place, literal }))
+            }
+            Kind::Constant(constant) => {
+                let literal = constant.into();
+                Ok(self.leaf(place, Form::Closed, Node::Constant { place, literal }))
+            }
+            Kind::Not => self.prefix(next, PrefixOperator::Not, asks, depth),
+            Kind::Operator(BinaryOperator::Minus) => self.prefix(
+                next,
+                PrefixOperator::Negate,
+                asks,
+                depth,
+            ),
+            Kind::LeftRound => self.group(next, depth),
+            Kind::LeftSquare => self.display(next, depth),
+            Kind::Operator(_) | Kind::Dot | Kind::Mark(_) | Kind::Fault(_) => Err(stop_at(next)),
         }
     }
 
@@ -223,7 +233,7 @@ impl Parser<'_, '_> {
         requires tight { nat_le (tree.left (tree.rank (binary_of operator))) (tight_of read.form) ≡ true }
         ensures { Between (Told (Loose (tree.level (tree.rank (binary_of operator))) depth.levels) (having (feed_source self.old.feed) (arena_nodes self.old.arena) read)) self.old self.new result }
     {
-        let rank = Rank::of(operator);
+        let rank = Rank::from(operator);
         self.feed.advance();
         let right = self.expression(rank.level() + 1, depth)?;
         Ok(made(

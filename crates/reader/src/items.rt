@@ -41,13 +41,7 @@ fn defined_name(feed: &mut Feed<'_, '_>, arena: &Arena, read: Read) -> Option<St
 {
     match read.form {
         Form::Named => match arena.node(read.node) {
-            Some(Node::Variable { name }) => {
-                if feed.passes(Mark::Colon) {
-                    Some(name)
-                } else {
-                    None
-                }
-            }
+            Some(Node::Variable { name }) => feed.passes(Mark::Colon).then_some(name),
             _ => None,
         },
         Form::Member | Form::Indexed | Form::Closed | Form::Binary(_) | Form::Prefix(_) => None,

@@ -58,11 +58,7 @@ impl Feed<'_, '_> {
         ensures told { AssignedTold form (coming self.old) (coming self.new) result }
         ensures source { feed_source self.new ≡ feed_source self.old }
     {
-        if form.is_target() {
-            self.passes(Mark::Assign)
-        } else {
-            false
-        }
+        form.is_target() && self.passes(Mark::Assign)
     }
 }
 

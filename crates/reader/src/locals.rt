@@ -2,7 +2,6 @@
 ghost use Rattle.reader.specs.Owners.{IsFunction};
 
 use crate::depths::Depth;
-use crate::heads::Head;
 use crate::items::Item;
 use crate::kinds::{Mark, Next};
 use crate::parsers::Parser;
@@ -25,13 +24,13 @@ impl Scope for Local {
         mark: Mark,
         depth: Depth,
     ) -> Result<Item, Stop> {
-        match Head::of(mark) {
-            Head::Def | Head::Nonlocal => Err(nested(next)),
-            Head::Global => {
+        match mark {
+            Mark::Def | Mark::Nonlocal => Err(nested(next)),
+            Mark::Global => {
                 parser.feed.advance();
                 Ok(Item::Declaration(parser.global(next.place, depth)?))
             }
-            Head::Class | Head::Nothing => Ok(Item::Statement(parser.worded(next, mark, depth)?)),
+            _ => Ok(Item::Statement(parser.worded(next, mark, depth)?)),
         }
     }
 }

@@ -8,7 +8,6 @@ ghost use Rattle.reader.specs.Owners.{IsProgram};
 
 use crate::bodies::{Body, empty_body};
 use crate::depths::Depth;
-use crate::heads::Head;
 use crate::items::Item;
 use crate::kinds::{Mark, Next};
 use crate::parsers::Parser;
@@ -31,18 +30,16 @@ impl Scope for Whole {
         mark: Mark,
         depth: Depth,
     ) -> Result<Item, Stop> {
-        match Head::of(mark) {
-            Head::Def => {
+        match mark {
+            Mark::Def => {
                 parser.feed.advance();
                 Ok(Item::Declaration(parser.function(next.place, depth)?))
             }
-            Head::Class => {
+            Mark::Class => {
                 parser.feed.advance();
                 Ok(Item::Declaration(parser.class(next.place)?))
             }
-            Head::Global | Head::Nonlocal | Head::Nothing => Ok(Item::Statement(parser.worded(
-                next, mark, depth,
-            )?)),
+            _ => Ok(Item::Statement(parser.worded(next, mark, depth)?)),
         }
     }
 }

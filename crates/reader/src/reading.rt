@@ -1,6 +1,6 @@
 // Reading a source: from its bytes to its tree, or to the first token that is refused.
-ghost use Rattle.std.specs.Prelude.{◌≡◌, ◌≤◌, [], length, IfOk, ◌≢◌};
-ghost use Rattle.arena.specs.Tables.{arena_limit, arena_nodes, node_at};
+ghost use Rattle.std.specs.Prelude.{◌≡◌, ◌≤◌, [], length, slice_get, IfOk, ◌≢◌};
+ghost use Rattle.arena.specs.Tables.{arena_limit, arena_nodes};
 ghost use Rattle.grammar.specs.Verdict.{incomplete, refused};
 ghost use Rattle.syntax.specs.Reading.{reading};
 ghost use Rattle.reader.specs.Stops.{stop_of};
@@ -100,7 +100,7 @@ impl Reader {
 
     // The node at an index.
     pub fn node(&self, index: usize) -> Option<Node>
-        ensures { result ≡ node_at (reader_nodes self.now) index }
+        ensures { result ≡ slice_get (reader_nodes self.now) index }
     {
         self.arena.node(index)
     }

@@ -13,7 +13,6 @@ use crate::kinds::{Kind, Mark, Next};
 use crate::parsers::Parser;
 use crate::refusals::Stop;
 use crate::taking::{stop_at, store};
-use crate::verbs::Word;
 use arena::nodes::Node;
 
 // A block and the expression before it, by their nodes.
@@ -53,13 +52,13 @@ impl Parser<'_, '_> {
         requires kind { next.kind ≡ Kind.Mark mark }
         ensures { Between (WordedTold depth.levels) self.old self.new result }
     {
-        match Word::of(mark) {
-            Word::Pass => self.pass_line(next, depth),
-            Word::Return => self.return_line(next, depth),
-            Word::If => self.if_statement(next, depth),
-            Word::While => self.while_statement(next, depth),
-            Word::For => self.for_statement(next, depth),
-            Word::Nothing => Err(stop_at(next)),
+        match mark {
+            Mark::Pass => self.pass_line(next, depth),
+            Mark::Return => self.return_line(next, depth),
+            Mark::If => self.if_statement(next, depth),
+            Mark::While => self.while_statement(next, depth),
+            Mark::For => self.for_statement(next, depth),
+            _ => Err(stop_at(next)),
         }
     }
 

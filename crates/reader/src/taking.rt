@@ -1,11 +1,10 @@
 // Taking what must come, and storing nodes.
-ghost use Rattle.std.specs.Prelude.{◌≡◌, ℕ, ◌<◌, ◌≤◌, true, List, [], ◌∷◌, ◌++◌, length, OnOk};
+ghost use Rattle.std.specs.Prelude.{◌≡◌, ℕ, ◌<◌, ◌≤◌, true, List, [], ◌∷◌, ◌++◌, length, OnOk, IsTrue, ◌↔◌};
 ghost use Rattle.arena.specs.Order.{before};
 ghost use Rattle.arena.specs.Tables.{arena_limit, arena_nodes};
 ghost use Rattle.grammar.specs.Verdict.{refused};
 ghost use Rattle.reader.specs.Feeds.{coming, feed_source};
 ghost use Rattle.reader.specs.Kinds.{next_token};
-ghost use Rattle.reader.specs.Marks.{is_marked};
 ghost use Rattle.reader.specs.Taking.{Bars, CameTold, MarkTold, NameTold, PassTold};
 ghost use Rattle.reader.specs.Stops.{stop_of};
 
@@ -74,20 +73,9 @@ pub(crate) fn nested(next: Next) -> Stop
 
 // Whether the next token is this mark.
 pub(crate) fn is_mark(next: Next, mark: Mark) -> bool
-    ensures { result ≡ is_marked next.kind mark }
+    ensures { IsTrue result ↔ (next.kind ≡ Kind.Mark mark) }
 {
-    match next.kind {
-        Kind::Mark(found) => mark.is(found),
-        Kind::Name(_)
-        | Kind::Text(_)
-        | Kind::Constant(_)
-        | Kind::Dot
-        | Kind::LeftRound
-        | Kind::LeftSquare
-        | Kind::Not
-        | Kind::Operator(_)
-        | Kind::Fault(_) => false,
-    }
+    matches!(next.kind, Kind::Mark(found) if found == mark)
 }
 
 impl Feed<'_, '_> {

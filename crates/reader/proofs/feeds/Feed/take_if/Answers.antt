@@ -1,27 +1,12 @@
-use Rattle.std.proofs.Common.{◌∷◌, drop, sym, refl, ap, ◌∙◌, subst, arith, rules}
-use Rattle.grammar.specs.Tree as tree
-use Rattle.grammar.specs.Tree.{at}
-use Rattle.reader.specs.Feeds.{coming, feed_source}
-use Rattle.reader.specs.Kinds.{mark_of}
+use Rattle.std.proofs.Common.{sym, refl, subst}
+use Rattle.std.proofs.lemmas.Bool.{iff_false}
+use Rattle.reader.specs.Feeds.{feed_source}
 use Rattle.reader.specs.Taking.{Another}
-use Rattle.reader.proofs.MarkFacts.{marked, unmarked}
+use Rattle.reader.proofs.MarkFacts.{unmarked}
 use Rattle.reader.proofs.feeds.Feed.take_if.Goals as goal
 
-pub returns-then-is_mark : goal.returns-then-is_mark
-returns-then-is_mark c =
-    let f = c.args.self.now in
+pub returns-else-is_mark-clause-told : goal.returns-else-is_mark-clause-told
+returns-else-is_mark-clause-told c =
     let n = c.in-Some.next in
-    let told = c.in-Some.ensures in
-    let e = marked (feed_source f) n.place n.kind c.args.mark (grind arith) in
-    record {
-      told = told ∙ ap (λ k. at k n.place ∷ drop 1 (coming f)) e ∙ ap (λ ts. at (tree.mark (mark_of c.args.mark)) n.place ∷ ts) (sym c.advance.ensures.coming);
-      source = c.advance.ensures.source;
-    }
-
-pub returns-else-is_mark : goal.returns-else-is_mark
-returns-else-is_mark c =
-    let f = c.args.self.now in
-    let n = c.in-Some.next in
-    let told = c.in-Some.ensures in
-    let e = unmarked (feed_source f) n.place n.kind c.args.mark (grind arith) in
-    record { told = (refl, subst (Another c.args.mark) (sym told) e); source = search rules }
+    let m = c.args.mark in
+    (refl, subst (Another m) (sym c.in-Some.ensures) (unmarked (feed_source c.args.self.now) n.place n.kind m (iff_false c.if-is_mark.ensures refl)))

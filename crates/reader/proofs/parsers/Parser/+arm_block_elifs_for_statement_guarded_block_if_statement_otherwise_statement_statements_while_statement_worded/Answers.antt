@@ -435,10 +435,10 @@ statements-returns t c =
     let cost = a.kept.cost in
     record { kept = a.kept; leads = record { stored = inv.0; spare = omega (arith, cost); goes = a.goes } }
 
-pub worded-returns-in-Nothing : goal.worded-returns-in-Nothing
-worded-returns-in-Nothing t c =
+pub worded-returns-in_default : goal.worded-returns-in_default
+worded-returns-in_default t c =
     let f = c.args.self.now.feed in
     let q = c.args.next.place in
     let face = faced (feed_source f) c.args.next (coming f) (Kind.Mark c.args.mark) c.requires.facing c.requires.kind in
     let bars = subst (λ k. Bars (at (kind_model (feed_source f) q k) q) c.stop_at.result) c.requires.kind (c.stop_at.ensures (feed_source f)) in
-    record { kept = kept_all f c.args.self.now.arena; leads = no_word c.args.mark q _ (coming f) c.stop_at.result (sym c.in-Nothing.ensures) face bars }
+    record { kept = kept_all f c.args.self.now.arena; leads = no_word c.args.mark q _ (coming f) c.stop_at.result (record { no_pass = c.in_default.not-Pass; no_return = c.in_default.not-Return; no_if = c.in_default.not-If; no_while = c.in_default.not-While; no_for = c.in_default.not-For }) face bars }

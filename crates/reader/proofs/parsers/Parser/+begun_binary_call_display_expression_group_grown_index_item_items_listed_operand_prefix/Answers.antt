@@ -1,8 +1,11 @@
-use Rattle.std.proofs.Common.{◌≡◌, ◌+◌, ◌<◌, leb, ◌∷◌, length, drop, sym, refl, ap, ◌∙◌, subst, arith, rules}
+use Rattle.std.proofs.Common.{◌≡◌, ℕ, ◌+◌, ◌<◌, leb, ◌∷◌, length, drop, Ok, sym, refl, ap, ◌∙◌, subst, arith, rules}
 use Rattle.std.proofs.lemmas.Bool.{le-leb}
 use Rattle.arena.specs.Tables.{arena_nodes}
+use Rattle.arena.specs.declared.arenas.Arena.{Arena}
+use Rattle.arena.specs.declared.nodes.Literal.{Literal}
 use Rattle.arena.specs.declared.nodes.Node.{Node}
-use Rattle.arena.specs.Trees.{binary_of, phrase, prefix_of, spelled, literal_of}
+use Rattle.arena.specs.declared.nodes.Stretch.{Stretch}
+use Rattle.arena.specs.Trees.{binary_of, phrase, prefix_of, literal_of}
 use Rattle.grammar.specs.Tree as tree
 use Rattle.grammar.specs.Tree.{at}
 use Rattle.grammar.specs.Reader.{asks, have, index, of_call, of_list, paren, rhs, under, want}
@@ -12,7 +15,10 @@ use Rattle.reader.specs.Feeds.{coming, feed_source}
 use Rattle.reader.specs.Forms.{form_of, rank_of}
 use Rattle.reader.specs.Growing.{sign}
 use Rattle.reader.specs.Kinds.{mark_of, next_token}
-use Rattle.reader.specs.Told.{Spot, having}
+use Rattle.reader.specs.Told.{Made, Spot, Told, having}
+use Rattle.reader.specs.declared.feeds.Feed.{Feed}
+use Rattle.reader.specs.declared.forms.Form.{Form}
+use Rattle.reader.specs.declared.forms.Read.{Read}
 use Rattle.reader.specs.declared.kinds.Kind.{Kind}
 use Rattle.reader.specs.declared.kinds.Mark as marks
 use Rattle.reader.proofs.Machine.{callable_same, goes_on, joins, lists, pars, opens, rests, sheds_op, sheds_pre, signs, stuck_end, stuck_next, subs, tight_same, unclosed}
@@ -22,27 +28,38 @@ use Rattle.reader.proofs.Steps.{Passed, both_before, exit, faced, grew_more, gre
 use Rattle.reader.proofs.Storing.{kept_then}
 use Rattle.reader.proofs.parsers.Parser.+begun_binary_call_display_expression_group_grown_index_item_items_listed_operand_prefix.Goals as goal
 
+-- a literal that stands for what comes is an expression by itself
+constant_told : {d a : ℕ} {f g : Feed} {n k : Arena} {place : ℕ} {l : Literal} {r : Read} → coming f ≡ at (tree.lit (literal_of (feed_source f) l)) place ∷ drop 1 (coming f) → coming g ≡ drop 1 (coming f) → feed_source g ≡ feed_source f → Made n k place Form.Closed (Node.Constant place l) r
+    → Told (Spot a d) want f n g k (Ok r)
+constant_told {n = n} face next same made =
+    let p = passed face next same in
+    let long = passed_long p in
+    told_made (kept_passed n p) made tt (omega (arith, long)) (omega (arith, long)) (λ h q. ap (λ ts. limited 64 ts (want h)) p.first)
+
 pub begun-returns-in-Name : goal.begun-returns-in-Name
 begun-returns-in-Name t c =
     let f = c.args.self.now.feed in
     let n = c.args.self.now.arena in
-    let src = feed_source f in
-    let s = c.in-Name.name in
-    let told = c.in-Name.ensures src in
-    let face : coming f ≡ at (tree.name (spelled src s)) s.at ∷ drop 1 (coming f) = c.requires.facing ∙ ap (λ x. x ∷ drop 1 (coming f)) told in
+    let place = c.args.next.place in
+    let s : Stretch = record { at = place; len = c.in-Name.len } in
+    let face = faced (feed_source f) c.args.next (coming f) (Kind.Name c.in-Name.len) c.requires.facing c.in-Name.is in
     let p = passed face c.leaf.ensures.coming c.leaf.ensures.source in
     let long = passed_long p in
     told_made (kept_passed n p) c.leaf.ensures.made (s, (refl, last_node (arena_nodes n) (Node.Variable s))) (omega (arith, long)) (omega (arith, long)) (λ h q. ap (λ ts. limited 64 ts (want h)) p.first)
 
+pub begun-returns-in-Text : goal.begun-returns-in-Text
+begun-returns-in-Text t c =
+    let f = c.args.self.now.feed in
+    let leaf = c.leaf-in-Text.ensures in
+    constant_told (faced (feed_source f) c.args.next (coming f) (Kind.Text c.in-Text.len) c.requires.facing c.in-Text.is) leaf.coming leaf.source leaf.made
+
 pub begun-returns-in-Constant : goal.begun-returns-in-Constant
 begun-returns-in-Constant t c =
     let f = c.args.self.now.feed in
-    let n = c.args.self.now.arena in
     let src = feed_source f in
-    let face : coming f ≡ at (tree.lit (literal_of src c.in-Constant.literal)) c.args.next.place ∷ drop 1 (coming f) = c.requires.facing ∙ ap (λ x. x ∷ drop 1 (coming f)) (c.in-Constant.ensures src) in
-    let p = passed face c.leaf-in-Constant.ensures.coming c.leaf-in-Constant.ensures.source in
-    let long = passed_long p in
-    told_made (kept_passed n p) c.leaf-in-Constant.ensures.made tt (omega (arith, long)) (omega (arith, long)) (λ h q. ap (λ ts. limited 64 ts (want h)) p.first)
+    let leaf = c.leaf-in-Constant.ensures in
+    let face = faced src c.args.next (coming f) (Kind.Constant c.in-Constant.constant) c.requires.facing c.in-Constant.is in
+    constant_told (face ∙ ap (λ l. at (tree.lit l) c.args.next.place ∷ drop 1 (coming f)) (sym (c.into-literal.ensures src))) leaf.coming leaf.source leaf.made
 
 pub prefix-returns-in_err-operand : goal.prefix-returns-in_err-operand
 prefix-returns-in_err-operand t c =
@@ -169,7 +186,7 @@ binary-returns-in_err-right t c =
     let e = (phrase src (arena_nodes n) x.node).expr in
     let face = faced src c.args.next (coming f) (Kind.Operator o) c.requires.facing c.requires.kind in
     let p = passed {f = f} {g = g} face c.advance.ensures.coming c.advance.ensures.source in
-    let level : c.level.result ≡ tree.level (tree.rank (binary_of o)) = c.level.ensures.value ∙ ap tree.level c.of-rank.ensures in
+    let level : c.level.result ≡ tree.level (tree.rank (binary_of o)) = c.level.ensures.value ∙ ap tree.level c.from-rank.ensures in
     let tight = ap (leb (tree.left (tree.rank (binary_of o)))) (tight_same x.form e) ∙ c.requires.tight in
     let told = c.in_err-right.ensures.told in
     exit c.from_residual.result _ c.from_residual.ensures.1 (kept_then (kept_passed n p) told.kept)
@@ -190,7 +207,7 @@ binary-made-requires t c =
     let e = (phrase src (arena_nodes n) x.node).expr in
     let face = faced src c.args.next (coming f) (Kind.Operator o) c.requires.facing c.requires.kind in
     let p = passed {f = f} {g = g} face c.advance.ensures.coming c.advance.ensures.source in
-    let level : c.level.result ≡ tree.level (tree.rank (binary_of o)) = c.level.ensures.value ∙ ap tree.level c.of-rank.ensures in
+    let level : c.level.result ≡ tree.level (tree.rank (binary_of o)) = c.level.ensures.value ∙ ap tree.level c.from-rank.ensures in
     let tight = ap (leb (tree.left (tree.rank (binary_of o)))) (tight_same x.form e) ∙ c.requires.tight in
     let told = c.in_ok-right.ensures.told in
     let long = passed_long p in
@@ -212,7 +229,7 @@ binary-returns t c =
     let e = (phrase src (arena_nodes n) x.node).expr in
     let face = faced src c.args.next (coming f) (Kind.Operator o) c.requires.facing c.requires.kind in
     let p = passed {f = f} {g = g} face c.advance.ensures.coming c.advance.ensures.source in
-    let level : c.level.result ≡ tree.level (tree.rank (binary_of o)) = c.level.ensures.value ∙ ap tree.level c.of-rank.ensures in
+    let level : c.level.result ≡ tree.level (tree.rank (binary_of o)) = c.level.ensures.value ∙ ap tree.level c.from-rank.ensures in
     let tight = ap (leb (tree.left (tree.rank (binary_of o)))) (tight_same x.form e) ∙ c.requires.tight in
     let told = c.in_ok-right.ensures.told in
     let ends = c.in_ok-right.ensures.ends in
@@ -231,9 +248,9 @@ binary-returns t c =
     ∙ joins i (form_of x.form e) e h (binary_of o) c.args.next.place (coming g) (le-leb (asks h) (tree.level (tree.rank (binary_of o))) a) tight
     ∙ told.goes.goes (rhs i (binary_of o) e h) spot
     ∙ sheds_op y.place (form_of y.form e') e' i (binary_of o) e h us (ends (rhs i (binary_of o) e h) spot)
-    ∙ ap (λ r. limited 64 us (have i (tree.binary r) (tree.bin i (binary_of o) e e') h)) (sym c.of-rank.ensures)
-    ∙ ap (λ a'. limited 64 us (have i (tree.binary (rank_of c.of-rank.result)) (tree.bin i (binary_of o) a'.expr e') h)) (sym (kept_phrase src x.node kept c.requires.stored))
-    ∙ ap (λ s. limited 64 us (have i (tree.binary (rank_of c.of-rank.result)) (tree.bin i (binary_of o) (phrase src ns x.node).expr (phrase s ns y.node).expr) h)) p.source)
+    ∙ ap (λ r. limited 64 us (have i (tree.binary r) (tree.bin i (binary_of o) e e') h)) (sym c.from-rank.ensures)
+    ∙ ap (λ a'. limited 64 us (have i (tree.binary (rank_of c.from-rank.result)) (tree.bin i (binary_of o) a'.expr e') h)) (sym (kept_phrase src x.node kept c.requires.stored))
+    ∙ ap (λ s. limited 64 us (have i (tree.binary (rank_of c.from-rank.result)) (tree.bin i (binary_of o) (phrase src ns x.node).expr (phrase s ns y.node).expr) h)) p.source)
 
 pub call-made-requires : goal.call-made-requires
 call-made-requires t c =
