@@ -4,6 +4,7 @@ ghost use Rattle.arena.specs.Tables.{arena_limit, arena_nodes};
 ghost use Rattle.reader.specs.Bodies.{BodyTold, Emptied, EmptyBody, FunctionBodyTold, ItemTold, OpeningTold};
 ghost use Rattle.reader.specs.Keeping.{Room};
 
+use crate::answers::Routine;
 use crate::feeds::Feed;
 use crate::items::{Item, Opening, first_line};
 use crate::kinds::Kind;
@@ -14,21 +15,14 @@ use crate::taking::{store, take_indented};
 use arena::arenas::Arena;
 use arena::nodes::Node;
 
-// The declarations and statements of a body, by their nodes.
-#[derive(Clone, Copy)]
-pub struct Body {
-    pub declarations: usize,
-    pub statements: usize,
-}
-
 // A body without declarations and statements.
-pub(crate) fn empty_body(arena: &mut Arena) -> Body
+pub(crate) fn empty_body(arena: &mut Arena) -> Routine
     requires { length (arena_nodes arena.old) + 2 ≤ arena_limit arena.old }
     ensures { Emptied arena.old arena.new result }
 {
     let declarations = store(arena, Node::NoDeclarations);
     let statements = store(arena, Node::NoStatements);
-    Body {
+    Routine {
         declarations,
         statements,
     }
@@ -89,9 +83,9 @@ fn declarations<S: Scope>(
 pub(crate) fn whole_body<S: Scope>(
     feed: &mut Feed<'_, '_>,
     arena: &mut Arena,
-    empty: Body,
+    empty: Routine,
     depth: usize,
-) -> Result<Body, Stop>
+) -> Result<Routine, Stop>
     requires room { Room feed.old arena.old }
     requires deep { depth ≤ 64 }
     requires empty { EmptyBody arena.old empty }
@@ -109,7 +103,7 @@ pub(crate) fn whole_body<S: Scope>(
         },
     );
     let statements = statements(feed, arena, first, S::close(), depth)?;
-    Ok(Body {
+    Ok(Routine {
         declarations,
         statements,
     })
@@ -120,7 +114,7 @@ pub(crate) fn function_body(
     feed: &mut Feed<'_, '_>,
     arena: &mut Arena,
     depth: usize,
-) -> Result<Body, Stop>
+) -> Result<Routine, Stop>
     requires room { Room feed.old arena.old }
     requires deep { depth ≤ 64 }
     ensures { FunctionBodyTold depth feed.old arena.old feed.new arena.new result }

@@ -16,10 +16,10 @@ ghost use Rattle.reader.specs.Told.{Deep, Ends, Loose, Made, Spot, Told, having}
 
 use crate::feeds::Feed;
 use crate::forms::{Form, Rank, Read};
+use crate::growths::Growth;
 use crate::kinds::{Kind, Mark, Next};
 use crate::making::{growth_of, made};
 use crate::refusals::Stop;
-use crate::growths::Growth;
 use crate::taking::{passes, stop_at, store, take_mark, take_name, too_deep};
 use crate::types::MOST_LEVELS;
 use arena::arenas::Arena;

@@ -4,7 +4,8 @@ ghost use Rattle.reader.specs.Functions.{FunctionTold, GlobalTold, HeadingTold, 
 ghost use Rattle.reader.specs.Bodies.{FunctionBodyTold};
 ghost use Rattle.reader.specs.Keeping.{Room};
 
-use crate::bodies::{Body, function_body};
+use crate::answers::Routine;
+use crate::bodies::function_body;
 use crate::feeds::Feed;
 use crate::kinds::Mark;
 use crate::parameters::parameters;
@@ -62,7 +63,7 @@ pub(crate) fn function(
 {
     let Heading { name, parameters } = name_and_parameters(feed, arena, place, depth)?;
     let result = result_type(feed, arena, depth)?;
-    let Body {
+    let Routine {
         declarations,
         statements,
     } = function_body(feed, arena, depth)?;

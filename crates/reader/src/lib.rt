@@ -19,6 +19,7 @@ mod making;
 mod parameters;
 mod programs;
 mod reading;
+pub mod reasons;
 pub mod refusals;
 mod scopes;
 mod statements;

@@ -10,8 +10,8 @@ ghost use Rattle.reader.specs.Growing.{growth_of};
 ghost use Rattle.reader.specs.Told.{Made};
 
 use crate::forms::{Form, Rank, Read};
-use crate::kinds::{Constant, Kind};
 use crate::growths::Growth;
+use crate::kinds::{Constant, Kind};
 use crate::taking::store;
 use arena::arenas::Arena;
 use arena::nodes::{BinaryOperator, Literal, Node};

@@ -6,7 +6,8 @@ ghost use Rattle.reader.specs.Bodies.{verdict_of};
 ghost use Rattle.reader.specs.Feeds.{coming, feed_source};
 ghost use Rattle.reader.specs.Owners.{IsProgram};
 
-use crate::bodies::{Body, empty_body, whole_body};
+use crate::answers::Routine;
+use crate::bodies::{empty_body, whole_body};
 use crate::classes::class;
 use crate::feeds::Feed;
 use crate::functions::function;
@@ -49,7 +50,7 @@ impl Scope for Whole {
 }
 
 // The program that all tokens are.
-pub(crate) fn program(feed: &mut Feed<'_, '_>, arena: &mut Arena) -> Result<Body, Stop>
+pub(crate) fn program(feed: &mut Feed<'_, '_>, arena: &mut Arena) -> Result<Routine, Stop>
     requires { length (arena_nodes arena.old) + 2 + 4 * length (coming feed.old) ≤ arena_limit arena.old }
     ensures verdict { verdict_of (feed_source feed.old) (arena_nodes arena.new) result ≡ reads (coming feed.old) }
     ensures limit { arena_limit arena.new ≡ arena_limit arena.old }

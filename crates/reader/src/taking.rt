@@ -6,11 +6,14 @@ ghost use Rattle.grammar.specs.Verdict.{refused};
 ghost use Rattle.reader.specs.Feeds.{coming, feed_source};
 ghost use Rattle.reader.specs.Kinds.{next_token};
 ghost use Rattle.reader.specs.Taking.{Bars, CameTold, MarkTold, NameTold, PassTold};
+ghost use Rattle.reader.specs.Reasons.{reason_number};
 ghost use Rattle.reader.specs.Stops.{stop_of};
 ghost use Rattle.reader.specs.Levels.{IndentTold, IndentedTold, RoundTold};
 
+use crate::answers::Refusal;
 use crate::feeds::Feed;
 use crate::kinds::{Kind, Mark, Next};
+use crate::reasons::Reason;
 use crate::refusals::Stop;
 use crate::types::MOST_LEVELS;
 use arena::arenas::Arena;
@@ -27,29 +30,23 @@ pub(crate) fn store(arena: &mut Arena, node: Node) -> usize
     arena.push(node).unwrap()
 }
 
-// The token fits nowhere here: 6, or a fault's own number.
+// The token is refused for this reason.
+fn refuse(next: Next, reason: Reason) -> Stop
+    ensures { stop_of result ≡ refused (reason_number reason) next.place }
+{
+    Stop::Refused(Refusal {
+        reason,
+        place: next.place,
+    })
+}
+
+// The token fits nowhere here, or is a fault.
 pub(crate) fn stop_at(next: Next) -> Stop
     ensures { (src : List ℕ) → Bars (next_token src next) result }
 {
     match next.kind {
-        Kind::Fault(fault) => Stop::Refused {
-            number: fault.number(),
-            place: next.place,
-        },
-        Kind::Name(_)
-        | Kind::Text(_)
-        | Kind::Constant(_)
-        | Kind::Dot
-        | Kind::LeftRound
-        | Kind::LeftSquare
-        | Kind::Not
-        | Kind::Operator(_)
-        | Kind::Mark(_) => {
-            Stop::Refused {
-                number: 6,
-                place: next.place,
-            }
-        }
+        Kind::Fault(fault) => refuse(next, Reason::Lexical(fault)),
+        _ => refuse(next, Reason::Misplaced),
     }
 }
 
@@ -57,20 +54,14 @@ pub(crate) fn stop_at(next: Next) -> Stop
 pub(crate) fn too_deep(next: Next) -> Stop
     ensures { stop_of result ≡ refused 7 next.place }
 {
-    Stop::Refused {
-        number: 7,
-        place: next.place,
-    }
+    refuse(next, Reason::TooDeep)
 }
 
 // The token heads a definition in a function body.
 pub(crate) fn nested(next: Next) -> Stop
     ensures { stop_of result ≡ refused 8 next.place }
 {
-    Stop::Refused {
-        number: 8,
-        place: next.place,
-    }
+    refuse(next, Reason::Nested)
 }
 
 // Whether the next token is this mark.
@@ -104,24 +95,14 @@ pub(crate) fn take_name(feed: &mut Feed<'_, '_>) -> Result<Stretch, Stop>
     let Some(next) = feed.next() else {
         return Err(Stop::Unfinished);
     };
-    match next.kind {
-        Kind::Name(len) => {
-            feed.advance();
-            Ok(Stretch {
-                at: next.place,
-                len,
-            })
-        }
-        Kind::Text(_)
-        | Kind::Constant(_)
-        | Kind::Dot
-        | Kind::LeftRound
-        | Kind::LeftSquare
-        | Kind::Not
-        | Kind::Operator(_)
-        | Kind::Mark(_)
-        | Kind::Fault(_) => Err(stop_at(next)),
-    }
+    let Kind::Name(len) = next.kind else {
+        return Err(stop_at(next));
+    };
+    feed.advance();
+    Ok(Stretch {
+        at: next.place,
+        len,
+    })
 }
 
 // Takes a mark that may come, and tells its place.
@@ -129,9 +110,7 @@ pub(crate) fn take_if(feed: &mut Feed<'_, '_>, mark: Mark) -> Option<usize>
     ensures told { CameTold mark (coming feed.old) (coming feed.new) result }
     ensures source { feed_source feed.new ≡ feed_source feed.old }
 {
-    let Some(next) = feed.next() else {
-        return None;
-    };
+    let next = feed.next()?;
     if is_mark(next, mark) {
         feed.advance();
         Some(next.place)
@@ -186,22 +165,12 @@ pub(crate) fn take_round(feed: &mut Feed<'_, '_>, depth: usize) -> Result<(), St
     let Some(next) = feed.next() else {
         return Err(Stop::Unfinished);
     };
-    match next.kind {
-        Kind::LeftRound => {
-            if depth == MOST_LEVELS {
-                return Err(too_deep(next));
-            }
-            feed.advance();
-            Ok(())
-        }
-        Kind::Name(_)
-        | Kind::Text(_)
-        | Kind::Constant(_)
-        | Kind::Dot
-        | Kind::LeftSquare
-        | Kind::Not
-        | Kind::Operator(_)
-        | Kind::Mark(_)
-        | Kind::Fault(_) => Err(stop_at(next)),
+    if !matches!(next.kind, Kind::LeftRound) {
+        return Err(stop_at(next));
     }
+    if depth == MOST_LEVELS {
+        return Err(too_deep(next));
+    }
+    feed.advance();
+    Ok(())
 }
