@@ -1,6 +1,7 @@
 pub mod Kinds
 pub mod Feeds
 pub mod Forms
+pub mod Reasons
 pub mod Stops
 pub mod Taking
 pub mod Keeping

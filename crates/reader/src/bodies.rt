@@ -4,6 +4,7 @@ ghost use Rattle.arena.specs.Tables.{arena_limit, arena_nodes};
 ghost use Rattle.reader.specs.Bodies.{BodyTold, Emptied, EmptyBody, FunctionBodyTold, ItemTold, OpeningTold};
 ghost use Rattle.reader.specs.Parsers.{Between};
 
+use crate::answers::Routine;
 use crate::depths::Depth;
 use crate::items::{Item, Opening};
 use crate::kinds::Kind;
@@ -15,21 +16,14 @@ use crate::taking::store;
 use arena::arenas::Arena;
 use arena::nodes::Node;
 
-// The declarations and statements of a body, by their nodes.
-#[derive(Clone, Copy)]
-pub struct Body {
-    pub declarations: usize,
-    pub statements: usize,
-}
-
 // A body without declarations and statements.
-pub(crate) fn empty_body(arena: &mut Arena) -> Body
+pub(crate) fn empty_body(arena: &mut Arena) -> Routine
     requires { length (arena_nodes arena.old) + 2 ≤ arena_limit arena.old }
     ensures { Emptied arena.old arena.new result }
 {
     let declarations = store(arena, Node::NoDeclarations);
     let statements = store(arena, Node::NoStatements);
-    Body {
+    Routine {
         declarations,
         statements,
     }
@@ -79,7 +73,11 @@ impl Parser<'_, '_> {
     }
 
     // A body, to its end, from an empty one.
-    pub(crate) fn whole_body<S: Scope>(&mut self, empty: Body, depth: Depth) -> Result<Body, Stop>
+    pub(crate) fn whole_body<S: Scope>(
+        &mut self,
+        empty: Routine,
+        depth: Depth,
+    ) -> Result<Routine, Stop>
         requires empty { EmptyBody self.old.arena empty }
         ensures { Between (BodyTold S.Scope.owns depth.levels) self.old self.new result }
     {
@@ -95,14 +93,14 @@ impl Parser<'_, '_> {
             },
         );
         let statements = self.statements(first, S::close(), depth)?;
-        Ok(Body {
+        Ok(Routine {
             declarations,
             statements,
         })
     }
 
     // The body of a function, past its colon.
-    pub(crate) fn function_body(&mut self, depth: Depth) -> Result<Body, Stop>
+    pub(crate) fn function_body(&mut self, depth: Depth) -> Result<Routine, Stop>
         ensures { Between (FunctionBodyTold depth.levels) self.old self.new result }
     {
         let inner = self.feed.take_indented(depth)?;

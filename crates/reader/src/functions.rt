@@ -4,7 +4,7 @@ ghost use Rattle.reader.specs.Functions.{FunctionTold, GlobalTold, HeadingTold, 
 ghost use Rattle.reader.specs.Bodies.{FunctionBodyTold};
 ghost use Rattle.reader.specs.Parsers.{Between};
 
-use crate::bodies::Body;
+use crate::answers::Routine;
 use crate::depths::Depth;
 use crate::kinds::Mark;
 use crate::parsers::Parser;
@@ -45,7 +45,7 @@ impl Parser<'_, '_> {
     {
         let Heading { name, parameters } = self.name_and_parameters(place, depth)?;
         let result = self.result_type(depth)?;
-        let Body {
+        let Routine {
             declarations,
             statements,
         } = self.function_body(depth)?;

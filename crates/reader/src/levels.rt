@@ -65,21 +65,11 @@ impl Feed<'_, '_> {
         let Some(next) = self.next() else {
             return Err(Stop::Unfinished);
         };
-        match next.kind {
-            Kind::LeftRound => {
-                let inner = depth.deeper(next)?;
-                self.advance();
-                Ok(inner)
-            }
-            Kind::Name(_)
-            | Kind::Text(_)
-            | Kind::Constant(_)
-            | Kind::Dot
-            | Kind::LeftSquare
-            | Kind::Not
-            | Kind::Operator(_)
-            | Kind::Mark(_)
-            | Kind::Fault(_) => Err(stop_at(next)),
+        if !matches!(next.kind, Kind::LeftRound) {
+            return Err(stop_at(next));
         }
+        let inner = depth.deeper(next)?;
+        self.advance();
+        Ok(inner)
     }
 }

@@ -22,6 +22,7 @@ mod parameters;
 mod parsers;
 mod programs;
 mod reading;
+pub mod reasons;
 pub mod refusals;
 mod scopes;
 mod statements;

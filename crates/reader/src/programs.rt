@@ -6,7 +6,8 @@ ghost use Rattle.reader.specs.Bodies.{verdict_of};
 ghost use Rattle.reader.specs.Feeds.{coming, feed_source};
 ghost use Rattle.reader.specs.Owners.{IsProgram};
 
-use crate::bodies::{Body, empty_body};
+use crate::answers::Routine;
+use crate::bodies::empty_body;
 use crate::depths::Depth;
 use crate::items::Item;
 use crate::kinds::{Mark, Next};
@@ -46,7 +47,7 @@ impl Scope for Whole {
 
 impl Parser<'_, '_> {
     // The program that all tokens are.
-    pub(crate) fn program(&mut self) -> Result<Body, Stop>
+    pub(crate) fn program(&mut self) -> Result<Routine, Stop>
         requires { length (arena_nodes self.old.arena) + 2 + 4 * length (coming self.old.feed) ≤ arena_limit self.old.arena }
         ensures verdict { verdict_of (feed_source self.old.feed) (arena_nodes self.new.arena) result ≡ reads (coming self.old.feed) }
         ensures limit { arena_limit self.new.arena ≡ arena_limit self.old.arena }

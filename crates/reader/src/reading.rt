@@ -1,15 +1,15 @@
 // Reading a source: from its bytes to its tree, or to the first token that is refused.
 ghost use Rattle.std.specs.Prelude.{◌≡◌, ◌≤◌, [], length, slice_get, IfOk, ◌≢◌};
 ghost use Rattle.arena.specs.Tables.{arena_limit, arena_nodes};
-ghost use Rattle.grammar.specs.Verdict.{incomplete, refused};
+ghost use Rattle.grammar.specs.Verdict.{incomplete};
 ghost use Rattle.syntax.specs.Reading.{reading};
-ghost use Rattle.reader.specs.Stops.{stop_of};
+ghost use Rattle.reader.specs.Stops.{refusal_verdict, stop_of};
 ghost use Rattle.reader.specs.Answers.{AnswerHolds, NothingLeft, answer_verdict, reader_nodes};
 
 use crate::answers::{Refusal, Routine};
-use crate::bodies::Body;
 use crate::feeds::Feed;
 use crate::parsers::Parser;
+use crate::reasons::Reason;
 use crate::refusals::Stop;
 use crate::tables::Reader;
 use arena::arenas::Arena;
@@ -26,11 +26,11 @@ const MOST_NODES: usize = 4 * (3 * LONGEST_SOURCE + 2) + 2;
 // The refusal of a token; the tokens of a source do not end too soon.
 fn refusal_of(stop: Stop) -> Refusal
     requires { stop_of stop ≢ incomplete }
-    ensures { refused result.number result.place ≡ stop_of stop }
+    ensures { refusal_verdict result ≡ stop_of stop }
 {
     match stop {
-        Stop::Refused { number, place } => Refusal { number, place },
-        Stop::Unfinished => unreachable(),
+        Stop::Refused(refusal) => refusal,
+        Stop::Unfinished => unreachable!(),
     }
 }
 
@@ -54,18 +54,7 @@ fn read_short(arena: &mut Arena, slots: &mut [usize], source: &[u8]) -> Result<R
         arena: filled,
     } = parser;
     *arena = filled;
-    match read {
-        Ok(
-            Body {
-                declarations,
-                statements,
-            },
-        ) => Ok(Routine {
-            declarations,
-            statements,
-        }),
-        Err(stop) => Err(refusal_of(stop)),
-    }
+    read.map_err(refusal_of)
 }
 
 impl Reader {
@@ -87,7 +76,7 @@ impl Reader {
         self.arena.clear();
         if source.len() > LONGEST_SOURCE {
             return Err(Refusal {
-                number: 1,
+                reason: Reason::TooLong,
                 place: 0,
             });
         }

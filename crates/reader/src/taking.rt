@@ -6,10 +6,13 @@ ghost use Rattle.grammar.specs.Verdict.{refused};
 ghost use Rattle.reader.specs.Feeds.{coming, feed_source};
 ghost use Rattle.reader.specs.Kinds.{next_token};
 ghost use Rattle.reader.specs.Taking.{Bars, CameTold, MarkTold, NameTold, PassTold};
+ghost use Rattle.reader.specs.Reasons.{reason_number};
 ghost use Rattle.reader.specs.Stops.{stop_of};
 
+use crate::answers::Refusal;
 use crate::feeds::Feed;
 use crate::kinds::{Kind, Mark, Next};
+use crate::reasons::Reason;
 use crate::refusals::Stop;
 use arena::arenas::Arena;
 use arena::nodes::{Node, Stretch};
@@ -25,29 +28,23 @@ pub(crate) fn store(arena: &mut Arena, node: Node) -> usize
     arena.push(node).unwrap()
 }
 
-// The token fits nowhere here: 6, or a fault's own number.
+// The token is refused for this reason.
+fn refuse(next: Next, reason: Reason) -> Stop
+    ensures { stop_of result ≡ refused (reason_number reason) next.place }
+{
+    Stop::Refused(Refusal {
+        reason,
+        place: next.place,
+    })
+}
+
+// The token fits nowhere here, or is a fault.
 pub(crate) fn stop_at(next: Next) -> Stop
     ensures { (src : List ℕ) → Bars (next_token src next) result }
 {
     match next.kind {
-        Kind::Fault(fault) => Stop::Refused {
-            number: fault.number(),
-            place: next.place,
-        },
-        Kind::Name(_)
-        | Kind::Text(_)
-        | Kind::Constant(_)
-        | Kind::Dot
-        | Kind::LeftRound
-        | Kind::LeftSquare
-        | Kind::Not
-        | Kind::Operator(_)
-        | Kind::Mark(_) => {
-            Stop::Refused {
-                number: 6,
-                place: next.place,
-            }
-        }
+        Kind::Fault(fault) => refuse(next, Reason::Lexical(fault)),
+        _ => refuse(next, Reason::Misplaced),
     }
 }
 
@@ -55,20 +52,14 @@ pub(crate) fn stop_at(next: Next) -> Stop
 pub(crate) fn too_deep(next: Next) -> Stop
     ensures { stop_of result ≡ refused 7 next.place }
 {
-    Stop::Refused {
-        number: 7,
-        place: next.place,
-    }
+    refuse(next, Reason::TooDeep)
 }
 
 // The token heads a definition in a function body.
 pub(crate) fn nested(next: Next) -> Stop
     ensures { stop_of result ≡ refused 8 next.place }
 {
-    Stop::Refused {
-        number: 8,
-        place: next.place,
-    }
+    refuse(next, Reason::Nested)
 }
 
 // Whether the next token is this mark.
@@ -103,24 +94,14 @@ impl Feed<'_, '_> {
         let Some(next) = self.next() else {
             return Err(Stop::Unfinished);
         };
-        match next.kind {
-            Kind::Name(len) => {
-                self.advance();
-                Ok(Stretch {
-                    at: next.place,
-                    len,
-                })
-            }
-            Kind::Text(_)
-            | Kind::Constant(_)
-            | Kind::Dot
-            | Kind::LeftRound
-            | Kind::LeftSquare
-            | Kind::Not
-            | Kind::Operator(_)
-            | Kind::Mark(_)
-            | Kind::Fault(_) => Err(stop_at(next)),
-        }
+        let Kind::Name(len) = next.kind else {
+            return Err(stop_at(next));
+        };
+        self.advance();
+        Ok(Stretch {
+            at: next.place,
+            len,
+        })
     }
 
     // Takes a mark that may come, and tells its place.
@@ -128,9 +109,7 @@ impl Feed<'_, '_> {
         ensures told { CameTold mark (coming self.old) (coming self.new) result }
         ensures source { feed_source self.new ≡ feed_source self.old }
     {
-        let Some(next) = self.next() else {
-            return None;
-        };
+        let next = self.next()?;
         if is_mark(next, mark) {
             self.advance();
             Some(next.place)

@@ -34,7 +34,7 @@ pub fn check_source(heap: Global, input: &[u8]) -> Result<PrintBuffer, AllocErro
     let mut reader = Reader::new(heap)?;
     match reader.read(input) {
         Ok(_) => append_verdict(&mut out, 0, 0),
-        Err(Refusal { number, place }) => append_verdict(&mut out, number, place as u32),
+        Err(Refusal { reason, place }) => append_verdict(&mut out, reason.number(), place as u32),
     }
     Ok(out)
 }

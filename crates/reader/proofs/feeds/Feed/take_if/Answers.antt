@@ -7,6 +7,6 @@ use Rattle.reader.proofs.feeds.Feed.take_if.Goals as goal
 
 pub returns-else-is_mark-clause-told : goal.returns-else-is_mark-clause-told
 returns-else-is_mark-clause-told c =
-    let n = c.in-Some.next in
+    let n = c.in_ok-next.next in
     let m = c.args.mark in
-    (refl, subst (Another m) (sym c.in-Some.ensures) (unmarked (feed_source c.args.self.now) n.place n.kind m (iff_false c.if-is_mark.ensures refl)))
+    (refl, subst (Another m) (sym c.in_ok-next.ensures) (unmarked (feed_source c.args.self.now) n.place n.kind m (iff_false c.if-is_mark.ensures refl)))

@@ -13,7 +13,7 @@ use Rattle.reader.specs.Keeping.{Kept}
 use Rattle.reader.specs.Levels.{IndentedTold}
 use Rattle.reader.specs.Owners.{IsFunction, function}
 use Rattle.reader.specs.Places.{Inward}
-use Rattle.reader.specs.declared.bodies.Body.{Body}
+use Rattle.reader.specs.declared.answers.Routine.{Routine}
 use Rattle.reader.specs.declared.depths.Depth.{Depth}
 use Rattle.reader.specs.declared.feeds.Feed.{Feed}
 use Rattle.reader.specs.declared.refusals.Stop.{Stop}
@@ -28,7 +28,7 @@ inward x = record { state = start (base (locals x.place x.name x.list x.result t
 abbrev owner_at : {d e : ℕ} → e ≡ d + 1 → FunctionOf d → OwnerAt IsFunction e
 owner_at l x = record { owner = function x.place x.name x.list x.result x.outer; owned = tt; deep = omega (arith, x.deep, l) }
 
-module _ {d : ℕ} {f g : Feed} {n m : Arena} {e : Body} {u : Depth} (told : IndentedTold d f g (Ok u)) (deeper : u.levels ≡ d + 1) (emptied : Emptied n m e) where
+module _ {d : ℕ} {f g : Feed} {n m : Arena} {e : Routine} {u : Depth} (told : IndentedTold d f g (Ok u)) (deeper : u.levels ≡ d + 1) (emptied : Emptied n m e) where
   -- the line's end and the INDENT pay for the two empty lists
   two : length (arena_nodes m) + 6 + 4 * length (coming g) ≤ length (arena_nodes n) + 4 * length (coming f)
   two =
@@ -42,7 +42,7 @@ module _ {d : ℕ} {f g : Feed} {n m : Arena} {e : Body} {u : Depth} (told : Ind
       let fewer = told.fewer in
       record { source = told.source; more = Node.NoDeclarations ∷ Node.NoStatements ∷ []; nodes = emptied.nodes; limit = emptied.limit; fewer = fewer; cost = omega (arith, cost) }
 
-  handed : {h : Feed} {k : Arena} (r : Result Body Stop) → BodyTold IsFunction u.levels g m h k r → FunctionBodyTold d f n h k r
+  handed : {h : Feed} {k : Arena} (r : Result Routine Stop) → BodyTold IsFunction u.levels g m h k r → FunctionBodyTold d f n h k r
   handed {h} {k} (Ok a) body =
       let cost = two in
       let spare = body.leads.spare in

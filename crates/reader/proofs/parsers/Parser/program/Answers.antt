@@ -10,7 +10,7 @@ use Rattle.reader.specs.Feeds.{coming, feed_source}
 use Rattle.reader.specs.Kinds.{next_token}
 use Rattle.reader.specs.Owners.{IsProgram, program}
 use Rattle.reader.specs.Stops.{stop_of}
-use Rattle.reader.specs.declared.bodies.Body.{Body}
+use Rattle.reader.specs.declared.answers.Routine.{Routine}
 use Rattle.reader.specs.declared.refusals.Stop.{Stop}
 use Rattle.reader.proofs.Refusing.{refused_here}
 use Rattle.reader.proofs.parsers.Parser.program.Goals as goal
@@ -19,7 +19,7 @@ abbrev whole : OwnerAt IsProgram 0
 whole = record { owner = program; owned = tt; deep = refl }
 
 -- the exit of a `?`
-refused_whole : (src : List ℕ) (ns : List Node) (r : Result Body Stop) (y : Stop) (v : Verdict) → IsErrAnd r (λ z. z ≡ y) → v ≡ stop_of y → verdict_of src ns r ≡ v
+refused_whole : (src : List ℕ) (ns : List Node) (r : Result Routine Stop) (y : Stop) (v : Verdict) → IsErrAnd r (λ z. z ≡ y) → v ≡ stop_of y → verdict_of src ns r ≡ v
 refused_whole src ns (Ok a) y v e w = absurd e
 refused_whole src ns (Err z) y v e w = ap stop_of e ∙ sym w
 

@@ -13,7 +13,7 @@ use Rattle.reader.specs.Kinds.{mark_of}
 use Rattle.reader.specs.Owners.{Owner, body_end, body_mark, frame_of}
 use Rattle.reader.specs.Places.{Sequel}
 use Rattle.reader.specs.Statements.{Filled, StatementsTold}
-use Rattle.reader.specs.declared.bodies.Body.{Body}
+use Rattle.reader.specs.declared.answers.Routine.{Routine}
 use Rattle.reader.specs.declared.feeds.Feed.{Feed}
 use Rattle.reader.specs.declared.items.Opening.{Opening}
 use Rattle.reader.specs.declared.kinds.Mark.{Mark}
@@ -26,7 +26,7 @@ use Rattle.reader.proofs.Storing.{kept_then, stays}
 use Rattle.reader.proofs.parsers.Parser.whole_body.Goals as goal
 
 -- The declarations of a body, and its first statement as a list by the node j.
-module _ {P : Owner → Type 0} {d j : ℕ} {f g : Feed} {n m : Arena} (k : Arena) (e : Body) (v : Opening) (none : EmptyBody n e) (told : OpeningTold P d e.declarations f n g m (Ok v))
+module _ {P : Owner → Type 0} {d j : ℕ} {f g : Feed} {n m : Arena} (k : Arena) (e : Routine) (v : Opening) (none : EmptyBody n e) (told : OpeningTold P d e.declarations f n g m (Ok v))
     (index : j ≡ length (arena_nodes m)) (nodes : arena_nodes k ≡ arena_nodes m ++ (Node.MoreStatements e.statements v.statement ∷ [])) (limit : arena_limit k ≡ arena_limit m) where
   first_stored : Along (λ (x : OwnerAt P d). limited 64 (coming f) (start (base (frame_of x.owner tree.no_decls) tree.empty)))
       (λ x. limited 64 (coming g) (start (base (frame_of x.owner (phrase (feed_source f) (arena_nodes k) v.declarations).decls) (phrase (feed_source f) (arena_nodes k) j).stmts))) f n g k
@@ -78,7 +78,7 @@ module _ {P : Owner → Type 0} {d j : ℕ} {f g : Feed} {n m : Arena} (k : Aren
           };
         }
 
-    body_stop : {h : Feed} {l : Arena} (r : Result Body Stop) (y : Stop) → IsErrAnd r (λ z. z ≡ y) → StatementsTold close d j g k h l (Err y) → BodyTold P d f n h l r
+    body_stop : {h : Feed} {l : Arena} (r : Result Routine Stop) (y : Stop) → IsErrAnd r (λ z. z ≡ y) → StatementsTold close d j g k h l (Err y) → BodyTold P d f n h l r
     body_stop r y c rest =
         let src = feed_source f in
         let a = first_stored in
