@@ -1,5 +1,5 @@
 -- What a table of nodes holds, and what storing one more answers and leaves.
-use Rattle.std.specs.Prelude.{ℕ, zero, suc, cond, List, [], ◌∷◌, ◌++◌, length, Some, None, Ok, Err, vec_items, Option, Result, nat_lt}
+use Rattle.std.specs.Prelude.{ℕ, cond, List, [], ◌∷◌, ◌++◌, length, Ok, Err, vec_items, Result, nat_lt}
 use Rattle.arena.specs.declared.arenas.Arena.{Arena}
 use Rattle.arena.specs.declared.growing.ArenaError.{ArenaError}
 use Rattle.arena.specs.declared.growing.ArenaError.TheVariants.{Full, LaterChild}
@@ -12,11 +12,6 @@ arena_nodes a = vec_items a.nodes
 -- how many nodes it takes in all
 abbrev pub arena_limit : Arena → ℕ
 arena_limit a = a.limit
-
-abbrev pub node_at : List Node → ℕ → Option Node
-node_at [] i = None
-node_at (n ∷ ns) zero = Some n
-node_at (n ∷ ns) (suc i) = node_at ns i
 
 -- the answer, and the nodes after
 pub record Pushed : Type 0 where

@@ -8,6 +8,7 @@ use crate::nodes::Node;
 #[derive(Drop)]
 pub struct Arena {
     pub(crate) nodes: Vec<Node>,
+    // The room of `nodes` may be more than was asked for; the limit is exact.
     pub(crate) limit: usize,
     ghost fits: { (vec_len nodes ≤ limit) × (limit ≤ vec_capacity nodes) },
     ghost sorted: { ordered 0 nodes.items ≡ true },

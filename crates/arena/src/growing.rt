@@ -1,11 +1,11 @@
 // How the table grows, and what it holds.
-ghost use Rattle.std.specs.Prelude.{◌≡◌, ◌<◌, [], length, IfOk, slice_index_or};
-ghost use Rattle.arena.specs.Tables.{arena_limit, arena_nodes, node_at, pushed};
+ghost use Rattle.std.specs.Prelude.{◌≡◌, [], IfOk, slice_get};
+ghost use Rattle.arena.specs.Tables.{arena_limit, arena_nodes, pushed};
 
 use crate::arenas::Arena;
 use crate::nodes::Node;
-use crate::order::is_before;
 use std::alloc::{AllocError, Global};
+use std::mem;
 
 // Why a node is not stored; the table is then as it was.
 #[derive(Clone, Copy, PartialEq, Eq, Debug)]
@@ -33,6 +33,20 @@ impl Arena {
         self.nodes.clear();
     }
 
+    // Takes the table out, and leaves one that takes no node.
+    pub fn take(&mut self) -> Arena
+        ensures nodes { arena_nodes result ≡ arena_nodes self.old }
+        ensures limit { arena_limit result ≡ arena_limit self.old }
+        ensures left { (arena_nodes self.new ≡ []) × (arena_limit self.new ≡ 0) }
+    {
+        let heap = *self.nodes.allocator();
+        let none = Arena {
+            nodes: Vec::new(heap),
+            limit: 0,
+        };
+        mem::replace(self, none)
+    }
+
     // Stores a node behind all others, and tells its index.
     pub fn push(&mut self, node: Node) -> Result<usize, ArenaError>
         ensures result { result ≡ (pushed self.old node).result }
@@ -43,7 +57,7 @@ impl Arena {
         if index >= self.limit {
             return Err(ArenaError::Full);
         }
-        if !is_before(node, index) {
+        if !node.is_before(index) {
             return Err(ArenaError::LaterChild);
         }
         self.nodes.push_reserved(node);
@@ -52,19 +66,8 @@ impl Arena {
 
     // The node at an index.
     pub fn node(&self, index: usize) -> Option<Node>
-        ensures { result ≡ node_at (arena_nodes self.now) index }
+        ensures { result ≡ slice_get (arena_nodes self.now) index }
     {
-        if index < self.nodes.len() {
-            Some(self.stored(index))
-        } else {
-            None
-        }
-    }
-
-    fn stored(&self, index: usize) -> Node
-        requires { index < length (arena_nodes self.now) }
-        ensures { result ≡ slice_index_or (arena_nodes self.now) index result }
-    {
-        self.nodes[index]
+        self.nodes.get(index).copied()
     }
 }

@@ -1,4 +1,5 @@
-// The nodes of a routine. A child is named by its index in the table.
+// The nodes of a routine. A child is named by its index in the table, not owned by a box: the memory is fixed, and none is
+// taken while a source is read.
 
 // A stretch of the source: a name.
 #[derive(Clone, Copy)]
@@ -7,7 +8,8 @@ pub struct Stretch {
     pub len: usize,
 }
 
-// A string of the source: the place of its opening quote, and how many bytes stand between its quotes.
+// A string of the source: the place of its opening quote, and how many bytes stand between its quotes. The same fields as
+// of a `Stretch` mean another stretch here, so the two stay apart.
 #[derive(Clone, Copy)]
 pub struct Quotation {
     pub at: usize,
@@ -48,7 +50,7 @@ pub enum PrefixOperator {
 }
 
 // `place` is the offset of the first token of the node's own text. A list is empty, or one element more than a list
-// before it; its elements are of one sort.
+// before it; its elements are of one sort, which its two nodes tell, so each sort has its own two.
 #[derive(Clone, Copy)]
 pub enum Node {
     // expressions

@@ -7,7 +7,7 @@ use Rattle.arena.specs.declared.arenas.Arena.{Arena}
 use Rattle.arena.specs.declared.nodes.Node.TheVariants.{MoreStatements, NoStatements}
 use Rattle.grammar.specs.Tree as tree
 use Rattle.grammar.specs.Tree.{Expr, Form, Stmt, Stmts, Token, at}
-use Rattle.grammar.specs.Reader.{Body, Offer, State, add, arms, base, block_of, decls, eachs, either, ends, have, locals, loops, main, on, other, pick, start, vars, want, when}
+use Rattle.grammar.specs.Reader.{Body, Offer, State, add, arms, base, block_of, decls, eachs, either, ends, have, locals, loops, main, on, other, pick, start, stmts, vars, want, when}
 use Rattle.grammar.specs.Limits.{Reading, body_depth, limited, proceeds}
 use Rattle.grammar.specs.Verdict.{judged}
 use Rattle.reader.specs.Feeds.{coming, feed_source}
@@ -18,12 +18,11 @@ use Rattle.reader.specs.Statements.{BlockTold, Filled, GuardedTold, StatementTol
 use Rattle.reader.specs.Stops.{stop_of}
 use Rattle.reader.specs.Taking.{Another, Bars}
 use Rattle.reader.specs.Told.{Spot, Told, having, read_expr}
-use Rattle.reader.specs.Words.{Worded, word_of}
+use Rattle.reader.specs.declared.depths.Depth.{Depth}
 use Rattle.reader.specs.declared.feeds.Feed.{Feed}
 use Rattle.reader.specs.declared.forms.Read.{Read}
 use Rattle.reader.specs.declared.kinds.Mark.{Mark}
 use Rattle.reader.specs.declared.refusals.Stop.{Stop}
-use Rattle.reader.specs.declared.verbs.Word.{Word}
 use Rattle.reader.proofs.Leading.{Along, along, along_as, along_stored, got, led, stepped}
 use Rattle.reader.proofs.Refusing.{refused_here}
 use Rattle.reader.proofs.Steps.{Passed, kept_long, kept_phrase, kept_still, passed_long}
@@ -131,20 +130,20 @@ unclaimed_by b [] e f = tt
 unclaimed_by b (t ∷ ts) e f = (ap (λ os. pick os t) e, ap (λ os. pick os t) f)
 
 -- where its first statement stands
-abbrev pub block_first : {d : ℕ} (ts : List Token) → NestAt d → SettledAt (d + 1) ts
-block_first ts x = record {
+abbrev pub block_first : {d e : ℕ} → e ≡ d + 1 → (ts : List Token) → NestAt d → SettledAt e ts
+block_first l ts x = record {
   body = nest_body x.nest tree.empty x.body;
-  deep = let e = nest_deep x.nest tree.empty x.body in let y = x.deep in omega (arith, e, y);
+  deep = omega (arith, nest_deep x.nest tree.empty x.body, x.deep, l);
   unclaimed = unclaimed_by (nest_body x.nest tree.empty x.body) ts (nest_undeclared x.nest tree.empty x.body) (nest_unended x.nest x.body);
   settled = nest_settled x.nest tree.empty x.body;
 }
 
 -- and those after it
-abbrev pub block_sequel : {d : ℕ} → NestAt d → Sequel Mark.Dedent (d + 1)
-block_sequel x = record {
+abbrev pub block_sequel : {d e : ℕ} → e ≡ d + 1 → NestAt d → Sequel Mark.Dedent e
+block_sequel l x = record {
   body = λ ss. nest_body x.nest ss x.body;
   end = λ ss. nest_end x.nest ss x.body;
-  deep = λ ss. let e = nest_deep x.nest ss x.body in let y = x.deep in omega (arith, e, y);
+  deep = λ ss. omega (arith, nest_deep x.nest ss x.body, x.deep, l);
   grows = λ ss s. nest_grows x.nest ss s x.body;
   closes = λ ss s. nest_closes x.nest ss s x.body;
   undeclared = λ ss s. nest_undeclared x.nest (tree.then ss s) x.body;
@@ -152,7 +151,7 @@ block_sequel x = record {
 }
 
 -- The line's end and the INDENT were taken, and a node stored for no statements.
-pub block_opened : {d : ℕ} {f g : Feed} {n m : Arena} → IndentedTold d f g (Ok tt) → arena_nodes m ≡ arena_nodes n ++ (NoStatements ∷ []) → arena_limit m ≡ arena_limit n
+pub block_opened : {d : ℕ} {e : Depth} {f g : Feed} {n m : Arena} → IndentedTold d f g (Ok e) → arena_nodes m ≡ arena_nodes n ++ (NoStatements ∷ []) → arena_limit m ≡ arena_limit n
     → Along (λ (x : NestAt d). limited 64 (coming f) (block_of (nest_body x.nest tree.empty x.body))) (λ x. limited 64 (coming g) (start (nest_body x.nest tree.empty x.body))) f n g m
 block_opened {n = n} told nodes limit = along_stored NoStatements (got n told block_inward) nodes limit (omega (arith, told.gets.count))
 
@@ -164,10 +163,10 @@ pub record Begun (d : ℕ) (f : Feed) (n : Arena) (g : Feed) (m : Arena) (list :
   pub reads : Along (λ (x : NestAt d). limited 64 (coming f) (block_of (nest_body x.nest tree.empty x.body)))
       (λ x. limited 64 (coming g) (start (nest_body x.nest (phrase (feed_source g) (arena_nodes m) list).stmts x.body))) f n g m
 
-pub block_begun : {d nothing last list : ℕ} {f g h : Feed} {n k m l : Arena} → IndentedTold d f g (Ok tt)
-    → nothing ≡ length (arena_nodes n) → arena_nodes k ≡ arena_nodes n ++ (NoStatements ∷ []) → arena_limit k ≡ arena_limit n → StatementTold (d + 1) g k h m (Ok last)
+pub block_begun : {d nothing last list : ℕ} {e : Depth} {f g h : Feed} {n k m l : Arena} → IndentedTold d f g (Ok e) → e.levels ≡ d + 1
+    → nothing ≡ length (arena_nodes n) → arena_nodes k ≡ arena_nodes n ++ (NoStatements ∷ []) → arena_limit k ≡ arena_limit n → StatementTold e.levels g k h m (Ok last)
     → list ≡ length (arena_nodes m) → arena_nodes l ≡ arena_nodes m ++ (MoreStatements nothing last ∷ []) → arena_limit l ≡ arena_limit m → Begun d f n h l list
-block_begun {d} {nothing} {last} {list} {f} {g} {h} {n} {k} {m} {l} told index nodes limit first index' nodes' limit' =
+block_begun {d} {nothing} {last} {list} {e} {f} {g} {h} {n} {k} {m} {l} told deeper index nodes limit first index' nodes' limit' =
     let node = MoreStatements nothing last in
     let src = feed_source h in
     let s = (phrase (feed_source g) (arena_nodes m) last).stmt in
@@ -185,21 +184,21 @@ block_begun {d} {nothing} {last} {list} {f} {g} {h} {n} {k} {m} {l} told index n
       stored = some.here;
       filled = subst Filled (sym list_of) tt;
       spare = omega (arith, one, two, count, cost);
-      reads = along_as (along_stored node (along (block_opened {n = n} told nodes limit) (led first (λ (x : NestAt d). block_first (coming g) x))) nodes' limit' (omega (arith, one, count, cost)))
+      reads = along_as (along_stored node (along (block_opened {n = n} told nodes limit) (led first (λ (x : NestAt d). block_first deeper (coming g) x))) nodes' limit' (omega (arith, one, count, cost)))
           (λ x. ap (λ b. limited 64 (coming h) (start b)) (nest_grows x.nest tree.empty s x.body ∙ ap (λ ss. nest_body x.nest ss x.body) (sym list_of)));
     }
 
 -- and the others
-pub block_told : {d list : ℕ} {f g h : Feed} {n m k : Arena} (r : Result ℕ Stop) → Begun d f n g m list → StatementsTold Mark.Dedent (d + 1) list g m h k r → BlockTold d f n h k r
-block_told {h = h} {k = k} (Ok i) b told = record {
+pub block_told : {d e list : ℕ} {f g h : Feed} {n m k : Arena} (r : Result ℕ Stop) → e ≡ d + 1 → Begun d f n g m list → StatementsTold Mark.Dedent e list g m h k r → BlockTold d f n h k r
+block_told {h = h} {k = k} (Ok i) l b told = record {
   kept = kept_then b.reads.kept told.kept;
   leads = record {
     stored = told.leads.stored;
     spare = omega (arith, b.spare, told.leads.spare);
-    goes = λ x. b.reads.goes x ∙ told.leads.goes (block_sequel x) ∙ ap (λ s. limited 64 (coming h) (nest_end x.nest (phrase s (arena_nodes k) i).stmts x.body)) b.reads.kept.source;
+    goes = λ x. b.reads.goes x ∙ told.leads.goes (block_sequel l x) ∙ ap (λ s. limited 64 (coming h) (nest_end x.nest (phrase s (arena_nodes k) i).stmts x.body)) b.reads.kept.source;
   };
 }
-block_told (Err y) b told = record { kept = kept_then b.reads.kept told.kept; leads = λ x. ap judged (b.reads.goes x) ∙ told.leads (block_sequel x) }
+block_told (Err y) l b told = record { kept = kept_then b.reads.kept told.kept; leads = λ x. ap judged (b.reads.goes x) ∙ told.leads (block_sequel l x) }
 
 -- The marks that end a body.
 data Closing : tree.Mark → Type 0 where
@@ -296,38 +295,28 @@ pub settled_told : {d : ℕ} {f g : Feed} {n m : Arena} (r : Result ℕ Stop) �
 settled_told (Ok i) t = record { kept = t.kept; leads = record { stored = t.leads.stored; spare = t.leads.spare; goes = λ x. t.leads.goes (of_settled x) } }
 settled_told (Err y) t = record { kept = t.kept; leads = λ x. t.leads (of_settled x) }
 
--- A mark is a word that begins a statement, or begins none.
-worded : (m : Mark) → Worded m (word_of m)
-worded Mark.RightRound = λ b p. refl
-worded Mark.RightSquare = λ b p. refl
-worded Mark.Comma = λ b p. refl
-worded Mark.Assign = λ b p. refl
-worded Mark.Colon = λ b p. refl
-worded Mark.Arrow = λ b p. refl
-worded Mark.Newline = λ b p. refl
-worded Mark.Indent = λ b p. refl
-worded Mark.Dedent = λ b p. refl
-worded Mark.End = λ b p. refl
-worded Mark.Class = λ b p. refl
-worded Mark.Def = λ b p. refl
-worded Mark.Global = λ b p. refl
-worded Mark.Nonlocal = λ b p. refl
-worded Mark.Pass = refl
-worded Mark.Return = refl
-worded Mark.If = refl
-worded Mark.Elif = λ b p. refl
-worded Mark.Else = λ b p. refl
-worded Mark.While = refl
-worded Mark.For = refl
-worded Mark.In = λ b p. refl
-worded Mark.Unused = λ b p. refl
+-- a mark that is none of the words that statements begin with
+pub record Wordless (m : Mark) : Type 0 where
+  pub no_pass : m ≡ Mark.Pass → ⊥
+  pub no_return : m ≡ Mark.Return → ⊥
+  pub no_if : m ≡ Mark.If → ⊥
+  pub no_while : m ≡ Mark.While → ⊥
+  pub no_for : m ≡ Mark.For → ⊥
 
-pub no_word : {d : ℕ} (m : Mark) (q : ℕ) (rest ts : List Token) (y : Stop) → word_of m ≡ Word.Nothing → ts ≡ at (tree.mark (mark_of m)) q ∷ rest → Bars (at (tree.mark (mark_of m)) q) y
+unstated : (m : Mark) → Wordless m → (b : Body) (p : ℕ) → pick (stmts b) (at (tree.mark (mark_of m)) p) ≡ none
+unstated Mark.Pass w b p = absurd (w.no_pass refl)
+unstated Mark.Return w b p = absurd (w.no_return refl)
+unstated Mark.If w b p = absurd (w.no_if refl)
+unstated Mark.While w b p = absurd (w.no_while refl)
+unstated Mark.For w b p = absurd (w.no_for refl)
+unstated _ w b p = refl
+
+pub no_word : {d : ℕ} (m : Mark) (q : ℕ) (rest ts : List Token) (y : Stop) → Wordless m → ts ≡ at (tree.mark (mark_of m)) q ∷ rest → Bars (at (tree.mark (mark_of m)) q) y
     → (x : BodyAt d ts) → judged (limited 64 ts (start x.body)) ≡ stop_of y
-no_word m q rest ts y e is bars x =
+no_word m q rest ts y w is bars x =
     let t = at (tree.mark (mark_of m)) q in
     let free = subst (Unclaimed x.body) is x.unclaimed in
     refused_here t rest ts (start x.body) y is
-    (ap (λ z. either z (either (pick (decls x.body) t) (either (pick (ends x.body) t) none))) (subst (Worded m) e (worded m) x.body q)
+    (ap (λ z. either z (either (pick (decls x.body) t) (either (pick (ends x.body) t) none))) (unstated m w x.body q)
     ∙ ap (λ z. either z (either (pick (ends x.body) t) none)) free.0 ∙ ap (λ z. either z none) free.1)
     bars

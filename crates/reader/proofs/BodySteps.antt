@@ -5,20 +5,18 @@ use Rattle.arena.specs.Tables.{arena_nodes}
 use Rattle.arena.specs.declared.arenas.Arena.{Arena}
 use Rattle.grammar.specs.Tree as tree
 use Rattle.grammar.specs.Tree.{Ann, Decl, Decls, Id, Params, Stmt, Stmts, Token, at}
-use Rattle.grammar.specs.Reader.{Outer, State, awaits, base, decls, ends, inside, join, locals, main, on, pick, start}
+use Rattle.grammar.specs.Reader.{State, awaits, base, decls, ends, inside, join, on, pick, start}
 use Rattle.grammar.specs.Limits.{Reading, frame_depth, limited}
 use Rattle.grammar.specs.Verdict.{judged}
 use Rattle.reader.specs.Bodies.{DeclaredAt, ItemTold, past_item}
 use Rattle.reader.specs.Definitions.{OuterAt}
 use Rattle.reader.specs.Feeds.{coming, feed_source}
-use Rattle.reader.specs.Heads.{Headed, head_of}
 use Rattle.reader.specs.Kinds.{mark_of, next_token}
 use Rattle.reader.specs.Leading.{Tells}
 use Rattle.reader.specs.Owners.{Owner, body_end, body_mark, frame_of, function, owner_depth, program}
 use Rattle.reader.specs.Places.{BodyAt, Sequel, Unclaimed}
 use Rattle.reader.specs.Statements.{WordedTold}
 use Rattle.reader.specs.declared.feeds.Feed.{Feed}
-use Rattle.reader.specs.declared.heads.Head.{Head}
 use Rattle.reader.specs.declared.items.Item.{Item}
 use Rattle.reader.specs.declared.kinds.Kind.{Kind}
 use Rattle.reader.specs.declared.kinds.Mark.{Mark}
@@ -74,42 +72,6 @@ body_at {p = p} m un e x = record {
   deep = frame_deep x.owner x.declared ∙ x.deep;
   unclaimed = subst (Unclaimed (base (frame_of x.owner x.declared) tree.empty)) (sym e) (un x.owner x.owned x.declared p, refl);
 }
-
--- What marks begin in a body without statements.
-headless : (k : tree.Mark) → ((ds : Decls) (p : ℕ) → pick (decls (base (main ds) tree.empty)) (at (tree.mark k) p) ≡ none)
-    → ((i : ℕ) (n : Id) (ps : Params) (a : Ann) (o : Outer) (ds : Decls) (p : ℕ) → pick (decls (base (locals i n ps a ds o) tree.empty)) (at (tree.mark k) p) ≡ none)
-    → (x : Owner) (ds : Decls) (p : ℕ) → pick (decls (base (frame_of x ds) tree.empty)) (at (tree.mark k) p) ≡ none
-headless k e l program ds p = e ds p
-headless k e l (function i n ps a o) ds p = l i n ps a o ds p
-
-headed : (m : Mark) → Headed m (head_of m)
-headed Mark.RightRound = headless tree.rparen (λ ds p. refl) (λ i n ps a o ds p. refl)
-headed Mark.RightSquare = headless tree.rbracket (λ ds p. refl) (λ i n ps a o ds p. refl)
-headed Mark.Comma = headless tree.comma (λ ds p. refl) (λ i n ps a o ds p. refl)
-headed Mark.Assign = headless tree.assign (λ ds p. refl) (λ i n ps a o ds p. refl)
-headed Mark.Colon = headless tree.colon (λ ds p. refl) (λ i n ps a o ds p. refl)
-headed Mark.Arrow = headless tree.arrow (λ ds p. refl) (λ i n ps a o ds p. refl)
-headed Mark.Newline = headless tree.newline (λ ds p. refl) (λ i n ps a o ds p. refl)
-headed Mark.Indent = headless tree.indent (λ ds p. refl) (λ i n ps a o ds p. refl)
-headed Mark.Dedent = headless tree.dedent (λ ds p. refl) (λ i n ps a o ds p. refl)
-headed Mark.End = headless tree.end (λ ds p. refl) (λ i n ps a o ds p. refl)
-headed Mark.Class = refl
-headed Mark.Def = refl
-headed Mark.Global = refl
-headed Mark.Nonlocal = refl
-headed Mark.Pass = headless tree.pass (λ ds p. refl) (λ i n ps a o ds p. refl)
-headed Mark.Return = headless tree.return (λ ds p. refl) (λ i n ps a o ds p. refl)
-headed Mark.If = headless tree.if (λ ds p. refl) (λ i n ps a o ds p. refl)
-headed Mark.Elif = headless tree.elif (λ ds p. refl) (λ i n ps a o ds p. refl)
-headed Mark.Else = headless tree.else (λ ds p. refl) (λ i n ps a o ds p. refl)
-headed Mark.While = headless tree.while (λ ds p. refl) (λ i n ps a o ds p. refl)
-headed Mark.For = headless tree.for (λ ds p. refl) (λ i n ps a o ds p. refl)
-headed Mark.In = headless tree.within (λ ds p. refl) (λ i n ps a o ds p. refl)
-headed Mark.Unused = headless tree.unused (λ ds p. refl) (λ i n ps a o ds p. refl)
-
--- of a mark whose head is known
-pub head_is : (m : Mark) (h : Head) → h ≡ head_of m → Headed m h
-head_is m h e = subst (Headed m) (sym e) (headed m)
 
 -- the word is here
 pub word_here : (f : Feed) (next : Next) (k m : Mark) → m ≡ k → coming f ≡ next_token (feed_source f) next ∷ drop 1 (coming f) → next.kind ≡ Kind.Mark m → coming f ≡ at (tree.mark (mark_of k)) next.place ∷ drop 1 (coming f)

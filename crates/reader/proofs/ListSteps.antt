@@ -1,6 +1,6 @@
 -- How what is told of lists is put together.
-use Rattle.std.proofs.Common.{◌≡◌, ℕ, suc, ◌+◌, ◌*◌, ◌<◌, ◌≤◌, cond, List, [], ◌∷◌, ◌++◌, length, drop, IsErrAnd, IfOk, Ok, Err, Result, sym, refl, ap, ◌∙◌, subst, append_assoc, arith, length-append, eq-eqb}
-use mathlib.Core.Option.{none, some}
+use Rattle.std.proofs.Common.{◌≡◌, ℕ, suc, ◌+◌, ◌*◌, ◌<◌, ◌≤◌, List, [], ◌∷◌, ◌++◌, length, drop, IsErrAnd, IfOk, Ok, Err, Result, sym, refl, ap, ◌∙◌, subst, append_assoc, arith, length-append}
+use mathlib.Core.Option.{none}
 use Rattle.arena.proofs.Growth.{trees_stand}
 use Rattle.arena.specs.Tables.{arena_limit, arena_nodes}
 use Rattle.arena.specs.Trees.{over, phrase}
@@ -16,7 +16,6 @@ use Rattle.reader.specs.Feeds.{coming, feed_source}
 use Rattle.reader.specs.Forms.{form_of}
 use Rattle.reader.specs.Kinds.{mark_of}
 use Rattle.reader.specs.Lists.{Closed, ToldList, Within, between, closed_list, in_list}
-use Rattle.reader.specs.Marks.{mark_number}
 use Rattle.reader.specs.Taking.{Another, NoMark}
 use Rattle.reader.specs.Keeping.{Kept}
 use Rattle.reader.specs.Stops.{stop_of}
@@ -25,7 +24,7 @@ use Rattle.reader.specs.declared.feeds.Feed.{Feed}
 use Rattle.reader.specs.declared.forms.Read.{Read}
 use Rattle.reader.specs.declared.kinds.Mark.{Mark}
 use Rattle.reader.specs.declared.refusals.Stop.{Stop}
-use Rattle.reader.proofs.MarkFacts.{expected}
+use Rattle.reader.proofs.MarkFacts.{taken}
 use Rattle.reader.proofs.Steps.{Passed, kept_passed, kept_phrase, kept_still}
 use Rattle.reader.proofs.Storing.{kept_then}
 
@@ -128,10 +127,6 @@ unlisted m j h es (t ∷ us) y c u b =
     (ap (λ x. either x (either (expect (closer j) s' t) none)) (u s) ∙ ap (λ x. either (expect x s' t) none) c ∙ ap (λ x. either x none) (b.0 s'))
     ∙ sym b.1
 
--- the mark that was to come
-taken : (m : Mark) (s : ℕ → State) (q : ℕ) → expect (mark_of m) s (at (tree.mark (mark_of m)) q) ≡ some (s q)
-taken m s q = expected m m s q ∙ ap (λ b. cond b (some (s q)) none) (eq-eqb (mark_number m) (mark_number m) refl)
-
 list_ends : (m : Mark) (j : Group) (h : Hole) (es : Exprs) (q : ℕ) (us : List Token) → closer j ≡ mark_of m → Another Mark.Comma (at (tree.mark (mark_of m)) q ∷ us)
     → between (at (tree.mark (mark_of m)) q ∷ us) es j h ≡ closed_list us es j h
 list_ends m j h es q us c u =
@@ -214,18 +209,18 @@ listed_empty {f} {g} {k} {n} {m} {i} {d} {q} close o p = record {
 }
 
 listed_by : {f g k : Feed} {n m m' : Arena} {d : ℕ} {close : Mark} {o o' : Group → Hole → Reading} (r : Result ℕ Stop) → Kept f n k m' → ((j : Group) (h : Hole) → closer j ≡ mark_of close → o j h ≡ o' j h)
-    → feed_source g ≡ feed_source f → ToldList (λ j h. Within (d + 1) j h × (closer j ≡ mark_of close)) o' (closed_list (coming k)) g m k m' r → ToldList (Closed close d) o (closed_list (coming k)) f n k m' r
+    → feed_source g ≡ feed_source f → ToldList (λ j h. Within d j h × (closer j ≡ mark_of close)) o' (closed_list (coming k)) g m k m' r → ToldList (Closed close d) o (closed_list (coming k)) f n k m' r
 listed_by {k = k} {m' = m'} {d = d} (Ok x) kept b s a = record {
   kept = kept;
   goes = record {
     stored = a.goes.stored;
-    goes = λ j h w. b j h w.mark ∙ a.goes.goes j h (record { deep = let e = w.deep in omega (arith, e) }, w.mark) ∙ ap (λ src. closed_list (coming k) (phrase src (arena_nodes m') x).exprs j h) s;
+    goes = λ j h w. b j h w.mark ∙ a.goes.goes j h (record { deep = w.deep }, w.mark) ∙ ap (λ src. closed_list (coming k) (phrase src (arena_nodes m') x).exprs j h) s;
   };
 }
-listed_by (Err y) kept b s a = record { kept = kept; goes = λ j h w. ap judged (b j h w.mark) ∙ a.goes j h (record { deep = let e = w.deep in omega (arith, e) }, w.mark) }
+listed_by (Err y) kept b s a = record { kept = kept; goes = λ j h w. ap judged (b j h w.mark) ∙ a.goes j h (record { deep = w.deep }, w.mark) }
 
 pub listed_items : {f g g' k : Feed} {n m m' : Arena} {i d : ℕ} (close : Mark) (r : Result ℕ Stop) → Opened f n g m i → coming g' ≡ coming g → Another close (coming g) → feed_source g' ≡ feed_source g
-    → ToldList (λ j h. Within (d + 1) j h × (closer j ≡ mark_of close)) (in_list (coming g') (phrase (feed_source g') (arena_nodes m) i).exprs) (closed_list (coming k)) g' m k m' r
+    → ToldList (λ j h. Within d j h × (closer j ≡ mark_of close)) (in_list (coming g') (phrase (feed_source g') (arena_nodes m) i).exprs) (closed_list (coming k)) g' m k m' r
     → ToldList (Closed close d) (λ j h. limited 64 (drop 1 (coming f)) (first j h)) (closed_list (coming k)) f n k m' r
 listed_items {f} {g} {g'} {k} {n} {m} {m'} {i} {d} close r o still u s a =
     let kept = kept_then o.kept (kept_then (kept_still m still s) a.kept) in

@@ -20,7 +20,7 @@ use Rattle.reader.specs.declared.forms.Form as code
 use Rattle.reader.specs.declared.kinds.Kind.{Kind}
 use Rattle.reader.specs.declared.kinds.Mark as marks
 use Rattle.reader.specs.declared.refusals.Stop.{Stop}
-use Rattle.reader.specs.declared.starts.Growth.{Growth}
+use Rattle.reader.specs.declared.growths.Growth.{Growth}
 
 -- A token that no step takes is refused.
 pub bars : (t : Token) (ts : List Token) (s : State) → step s t ≡ none → judged (limited 64 (t ∷ ts) s) ≡ refused (fault t) (place t)

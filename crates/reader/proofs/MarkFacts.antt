@@ -1,44 +1,12 @@
--- The numbers of marks tell them apart.
-use Rattle.std.proofs.Common.{◌≡◌, ℕ, Bool, true, false, cond, eqb, List, [], ◌∷◌, get_or, sym, refl, ap, ◌∙◌, arith, eq-eqb, eqb-true}
+-- Which mark comes.
+use Rattle.std.proofs.Common.{◌≡◌, ℕ, List, sym, refl, ap, ◌∙◌}
 use mathlib.Core.Option.{none, some}
 use Rattle.grammar.specs.Tree as tree
 use Rattle.grammar.specs.Tree.{at, mark_discrete}
 use Rattle.grammar.specs.Reader.{State, expect, given}
 use Rattle.reader.specs.Kinds.{kind_model, mark_of}
-use Rattle.reader.specs.Marks.{is_marked, mark_number}
 use Rattle.reader.specs.declared.kinds.Kind.{Kind}
 use Rattle.reader.specs.declared.kinds.Mark.{Mark}
-
-wrong_way : false ≡ true → ⊥
-wrong_way e = let z : ◌≡◌ {A = ℕ} 0 1 = cc in omega arith
-
-abbrev marks : List Mark
-marks = Mark.RightRound ∷ Mark.RightSquare ∷ Mark.Comma ∷ Mark.Assign ∷ Mark.Colon ∷ Mark.Arrow ∷ Mark.Newline ∷ Mark.Indent ∷ Mark.Dedent ∷ Mark.End ∷ Mark.Class ∷ Mark.Def ∷ Mark.Global ∷ Mark.Nonlocal ∷ Mark.Pass ∷ Mark.Return ∷ Mark.If ∷ Mark.Elif ∷ Mark.Else ∷ Mark.While ∷ Mark.For ∷ Mark.In ∷ Mark.Unused ∷ []
-
-numbered : (m : Mark) → get_or marks (mark_number m) Mark.Unused ≡ m
-numbered Mark.RightRound = refl
-numbered Mark.RightSquare = refl
-numbered Mark.Comma = refl
-numbered Mark.Assign = refl
-numbered Mark.Colon = refl
-numbered Mark.Arrow = refl
-numbered Mark.Newline = refl
-numbered Mark.Indent = refl
-numbered Mark.Dedent = refl
-numbered Mark.End = refl
-numbered Mark.Class = refl
-numbered Mark.Def = refl
-numbered Mark.Global = refl
-numbered Mark.Nonlocal = refl
-numbered Mark.Pass = refl
-numbered Mark.Return = refl
-numbered Mark.If = refl
-numbered Mark.Elif = refl
-numbered Mark.Else = refl
-numbered Mark.While = refl
-numbered Mark.For = refl
-numbered Mark.In = refl
-numbered Mark.Unused = refl
 
 abbrev back : tree.Mark → Mark
 back tree.rparen = Mark.RightRound
@@ -67,69 +35,24 @@ back tree.unused = Mark.Unused
 
 back_of : (m : Mark) → back (mark_of m) ≡ m
 back_of Mark.RightRound = refl
-back_of Mark.RightSquare = refl
-back_of Mark.Comma = refl
-back_of Mark.Assign = refl
-back_of Mark.Colon = refl
-back_of Mark.Arrow = refl
-back_of Mark.Newline = refl
-back_of Mark.Indent = refl
-back_of Mark.Dedent = refl
-back_of Mark.End = refl
-back_of Mark.Class = refl
-back_of Mark.Def = refl
-back_of Mark.Global = refl
-back_of Mark.Nonlocal = refl
-back_of Mark.Pass = refl
-back_of Mark.Return = refl
-back_of Mark.If = refl
-back_of Mark.Elif = refl
-back_of Mark.Else = refl
-back_of Mark.While = refl
-back_of Mark.For = refl
-back_of Mark.In = refl
-back_of Mark.Unused = refl
-
-same_number : (m k : Mark) → mark_number m ≡ mark_number k → m ≡ k
-same_number m k e = sym (numbered m) ∙ ap (λ n. get_or marks n Mark.Unused) e ∙ numbered k
+back_of _ = refl
 
 same_mark : (m k : Mark) → mark_of m ≡ mark_of k → m ≡ k
 same_mark m k e = sym (back_of m) ∙ ap back e ∙ back_of k
 
-by_test : (m k : Mark) → (mark_of m ≡ mark_of k → ⊥) → (s : State) (b : Bool) → eqb (mark_number m) (mark_number k) ≡ b → none ≡ cond b (some s) none
-by_test m k p s true e = absurd (p (ap mark_of (same_number m k (eqb-true (mark_number m) (mark_number k) e))))
-by_test m k p s false e = refl
+given_yes : {A : Type 0} (d : Dec A) (s : State) → A → given d s ≡ some s
+given_yes (yes p) s a = refl
+given_yes (no p) s a = absurd (p a)
 
-decided : (m k : Mark) (d : Dec (mark_of m ≡ mark_of k)) (s : State) → given d s ≡ cond (eqb (mark_number m) (mark_number k)) (some s) none
-decided m k (yes p) s = ap (λ b. cond b (some s) none) (sym (eq-eqb (mark_number m) (mark_number k) (ap mark_number (same_mark m k p))))
-decided m k (no p) s = by_test m k p s (eqb (mark_number m) (mark_number k)) refl
+given_no : {A : Type 0} (d : Dec A) (s : State) → (A → ⊥) → given d s ≡ none
+given_no (yes p) s n = absurd (n p)
+given_no (no p) s n = refl
 
--- whether the mark that must come is there
-pub expected : (m k : Mark) (s : ℕ → State) (q : ℕ) → expect (mark_of m) s (at (tree.mark (mark_of k)) q) ≡ cond (eqb (mark_number m) (mark_number k)) (some (s q)) none
-expected m k s q = decided m k (mark_discrete (mark_of m) (mark_of k)) (s q)
-
--- a token that is the mark
-pub marked : (src : List ℕ) (p : ℕ) (k : Kind) (m : Mark) → is_marked k m ≡ true → kind_model src p k ≡ tree.mark (mark_of m)
-marked src p (Kind.Name n) m e = absurd (wrong_way e)
-marked src p (Kind.Text n) m e = absurd (wrong_way e)
-marked src p (Kind.Constant l) m e = absurd (wrong_way e)
-marked src p Kind.Dot m e = absurd (wrong_way e)
-marked src p Kind.LeftRound m e = absurd (wrong_way e)
-marked src p Kind.LeftSquare m e = absurd (wrong_way e)
-marked src p Kind.Not m e = absurd (wrong_way e)
-marked src p (Kind.Operator o) m e = absurd (wrong_way e)
-marked src p (Kind.Mark k) m e = ap (λ x. tree.mark (mark_of x)) (sym (same_number m k (eqb-true (mark_number m) (mark_number k) e)))
-marked src p (Kind.Fault f) m e = absurd (wrong_way e)
+-- the mark that was to come
+pub taken : (m : Mark) (s : ℕ → State) (q : ℕ) → expect (mark_of m) s (at (tree.mark (mark_of m)) q) ≡ some (s q)
+taken m s q = given_yes (mark_discrete (mark_of m) (mark_of m)) (s q) refl
 
 -- a token that is another
-pub unmarked : (src : List ℕ) (p : ℕ) (k : Kind) (m : Mark) → is_marked k m ≡ false → (s : ℕ → State) → expect (mark_of m) s (at (kind_model src p k) p) ≡ none
-unmarked src p (Kind.Name n) m e s = refl
-unmarked src p (Kind.Text n) m e s = refl
-unmarked src p (Kind.Constant l) m e s = refl
-unmarked src p Kind.Dot m e s = refl
-unmarked src p Kind.LeftRound m e s = refl
-unmarked src p Kind.LeftSquare m e s = refl
-unmarked src p Kind.Not m e s = refl
-unmarked src p (Kind.Operator o) m e s = refl
-unmarked src p (Kind.Mark k) m e s = expected m k s p ∙ ap (λ b. cond b (some (s p)) none) e
-unmarked src p (Kind.Fault f) m e s = refl
+pub unmarked : (src : List ℕ) (p : ℕ) (k : Kind) (m : Mark) → (k ≡ Kind.Mark m → ⊥) → (s : ℕ → State) → expect (mark_of m) s (at (kind_model src p k) p) ≡ none
+unmarked src p (Kind.Mark k) m other s = given_no (mark_discrete (mark_of m) (mark_of k)) (s p) (λ e. other (ap Kind.Mark (sym (same_mark m k e))))
+unmarked src p _ m other s = refl

@@ -1,9 +1,9 @@
 -- How what is told is put together.
-use Rattle.std.proofs.Common.{◌≡◌, ℕ, suc, ◌+◌, ◌*◌, ◌<◌, ◌≤◌, true, false, ◌&&◌, ltb, leb, List, [], ◌∷◌, ◌++◌, length, drop, IsErrAnd, Some, Ok, Err, Result, sym, refl, ap, ◌∙◌, subst, append_assoc, arith, length-append}
+use Rattle.std.proofs.Common.{◌≡◌, ℕ, suc, ◌+◌, ◌*◌, ◌<◌, ◌≤◌, true, false, ◌&&◌, ltb, leb, List, [], ◌∷◌, ◌++◌, length, drop, slice_get, IsErrAnd, Some, Ok, Err, Result, sym, refl, ap, ◌∙◌, subst, append_assoc, arith, length-append}
 use Rattle.std.proofs.lemmas.List.{append-nil}
 use Rattle.std.proofs.lemmas.Bool.{lt-leb, lt-ltb}
 use Rattle.arena.proofs.Growth.{trees_stand}
-use Rattle.arena.specs.Tables.{arena_limit, arena_nodes, node_at}
+use Rattle.arena.specs.Tables.{arena_limit, arena_nodes}
 use Rattle.arena.specs.Trees.{over, phrase}
 use Rattle.arena.specs.declared.arenas.Arena.{Arena}
 use Rattle.arena.specs.declared.nodes.Node.{Node}
@@ -53,7 +53,7 @@ exit (Ok i) y e k w = absurd e
 exit (Err z) y e k w = record { kept = k; goes = λ h p. w h p ∙ ap stop_of (sym e) }
 
 -- the node behind some others
-pub last_node : (ns : List Node) (x : Node) → node_at (ns ++ (x ∷ [])) (length ns) ≡ Some x
+pub last_node : (ns : List Node) (x : Node) → slice_get (ns ++ (x ∷ [])) (length ns) ≡ Some x
 last_node [] x = refl
 last_node (n ∷ ns) x = last_node ns x
 

@@ -1,33 +1,19 @@
 -- What goes on with an expression, and what begins one.
-use Rattle.std.specs.Prelude.{◌≡◌, ℕ, true, cond, ◌&&◌, List, Some, None, Option, nat_le}
-use Rattle.std.proofs.Math.Option.{none}
-use Rattle.arena.specs.Trees.{binary_of, literal_of, spelled}
+use Rattle.std.specs.Prelude.{◌≡◌, ℕ, true, cond, ◌&&◌, Some, None, Option, nat_le}
+use Rattle.arena.specs.Trees.{binary_of}
 use Rattle.arena.specs.declared.nodes.BinaryOperator.{BinaryOperator}
 use Rattle.arena.specs.declared.nodes.PrefixOperator.{PrefixOperator}
 use Rattle.grammar.specs.Tree as tree
 use Rattle.grammar.specs.Tree.{at}
-use Rattle.grammar.specs.Reader.{Hole, begins}
 use Rattle.reader.specs.Forms.{is_callable, tight_of}
-use Rattle.reader.specs.Kinds.{next_token}
 use Rattle.reader.specs.declared.forms.Form.{Form}
 use Rattle.reader.specs.declared.kinds.Kind.{Kind}
-use Rattle.reader.specs.declared.kinds.Next.{Next}
-use Rattle.reader.specs.declared.starts.Growth.{Growth}
-use Rattle.reader.specs.declared.starts.Start.{Start}
+use Rattle.reader.specs.declared.growths.Growth.{Growth}
 
 -- the token that an operator before an operand is
 abbrev pub sign : PrefixOperator → Kind
 sign PrefixOperator.Not = Kind.Not
 sign PrefixOperator.Negate = Kind.Operator BinaryOperator.Minus
-
--- the token is what it is taken for
-abbrev pub Shown : List ℕ → Next → Start → Type 0
-Shown src n (Start.Name s) = next_token src n ≡ at (tree.name (spelled src s)) s.at
-Shown src n (Start.Constant l) = next_token src n ≡ at (tree.lit (literal_of src l)) n.place
-Shown src n (Start.Sign o) = n.kind ≡ sign o
-Shown src n Start.Group = n.kind ≡ Kind.LeftRound
-Shown src n Start.List = n.kind ≡ Kind.LeftSquare
-Shown src n Start.Nothing = (h : Hole) → begins h (next_token src n) ≡ none
 
 -- where an expression must be as tight as a
 abbrev pub growth_of : Kind → Form → ℕ → Option Growth

@@ -1,7 +1,7 @@
 pub mod Kinds
-pub mod Marks
 pub mod Feeds
 pub mod Forms
+pub mod Reasons
 pub mod Stops
 pub mod Taking
 pub mod Keeping
@@ -14,13 +14,12 @@ pub mod Parameters
 pub mod Leading
 pub mod Places
 pub mod Levels
+pub mod Parsers
 pub mod Statements
-pub mod Words
 pub mod Lines
 pub mod Functions
 pub mod Classes
 pub mod Owners
 pub mod Bodies
-pub mod Heads
 pub mod Defining
 pub mod Answers

@@ -18,10 +18,10 @@ use Rattle.reader.specs.declared.feeds.Feed.{Feed}
 use Rattle.reader.specs.declared.kinds.Mark.{Mark}
 use Rattle.reader.specs.declared.refusals.Stop.{Stop}
 
--- a list that this mark closes, in a hole with so many levels open
+-- a list that this mark closes, among so many levels, its own with them
 pub record Closed (m : Mark) (d : ℕ) (g : Group) (h : Hole) : Type 0 where
   pub mark : closer g ≡ mark_of m
-  pub deep : hole_depth h ≡ d
+  pub deep : suc (hole_depth h) ≡ d
 
 -- a list among so many levels, its own with them
 pub record Within (d : ℕ) (g : Group) (h : Hole) : Type 0 where

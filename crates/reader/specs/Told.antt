@@ -1,11 +1,11 @@
 -- What the functions of the reader tell: the limited machine of the grammar, whatever the phrase is for, goes on alike, or
 -- comes to the same refusal.
-use Rattle.std.specs.Prelude.{◌≡◌, ℕ, ◌+◌, ◌*◌, ◌<◌, ◌≤◌, List, [], ◌∷◌, ◌++◌, length, Some, Ok, Err, Result}
+use Rattle.std.specs.Prelude.{◌≡◌, ℕ, ◌+◌, ◌*◌, ◌<◌, ◌≤◌, List, [], ◌∷◌, ◌++◌, length, slice_get, Some, Ok, Err, Result}
 use Rattle.std.proofs.Math.Option.{none}
 use Rattle.arena.specs.declared.arenas.Arena.{Arena}
 use Rattle.arena.specs.declared.nodes.Node.{Node}
 use Rattle.arena.specs.declared.nodes.Stretch.{Stretch}
-use Rattle.arena.specs.Tables.{arena_limit, arena_nodes, node_at}
+use Rattle.arena.specs.Tables.{arena_limit, arena_nodes}
 use Rattle.arena.specs.Trees.{phrase}
 use Rattle.grammar.specs.Tree as tree
 use Rattle.grammar.specs.Tree.{Expr, Token}
@@ -48,7 +48,7 @@ pub record Loose (l d : ℕ) (h : Hole) : Type 0 where
 
 -- a name at the place p is the node of a variable there
 abbrev pub NamedAt : List Node → Form → ℕ → ℕ → Type 0
-NamedAt ns Form.Named p i = (s : Stretch) × ((s.at ≡ p) × (node_at ns i ≡ Some (Node.Variable s)))
+NamedAt ns Form.Named p i = (s : Stretch) × ((s.at ≡ p) × (slice_get ns i ≡ Some (Node.Variable s)))
 NamedAt ns Form.Member p i = Unit {0}
 NamedAt ns Form.Indexed p i = Unit {0}
 NamedAt ns Form.Closed p i = Unit {0}

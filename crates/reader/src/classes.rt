@@ -3,16 +3,15 @@ ghost use Rattle.std.specs.Prelude.{◌≡◌, ◌<◌, length};
 ghost use Rattle.arena.specs.Tables.{arena_nodes};
 ghost use Rattle.reader.specs.Classes.{ClassTold, MemberTold, MembersTold, NamesTold};
 ghost use Rattle.reader.specs.Feeds.{coming};
-ghost use Rattle.reader.specs.Keeping.{Room};
 ghost use Rattle.reader.specs.Taking.{Another};
+ghost use Rattle.reader.specs.Parsers.{Between};
 
-use crate::definitions::variable;
+use crate::depths::Depth;
 use crate::feeds::Feed;
-use crate::functions::function;
 use crate::kinds::Mark;
+use crate::parsers::Parser;
 use crate::refusals::Stop;
-use crate::taking::{passes, store, take_if, take_indented, take_mark, take_name, take_round};
-use arena::arenas::Arena;
+use crate::taking::store;
 use arena::nodes::{Node, Stretch};
 
 // The names of a class and of its superclass.
@@ -22,62 +21,63 @@ pub(crate) struct ClassNames {
     pub(crate) superclass: Stretch,
 }
 
-// The names of a class, past the `class` at `place`.
-fn class_names(feed: &mut Feed<'_, '_>, place: usize) -> Result<ClassNames, Stop>
-    ensures { NamesTold place feed.old feed.new result }
-{
-    let name = take_name(feed)?;
-    take_round(feed, 0)?;
-    let superclass = take_name(feed)?;
-    take_mark(feed, Mark::RightRound)?;
-    Ok(ClassNames { name, superclass })
-}
-
-// One member of a class, which does not end here.
-fn class_member(feed: &mut Feed<'_, '_>, arena: &mut Arena) -> Result<usize, Stop>
-    requires room { Room feed.old arena.old }
-    requires goes_on { Another Mark.Dedent (coming feed.old) }
-    ensures { MemberTold feed.old arena.old feed.new arena.new result }
-{
-    if let Some(place) = take_if(feed, Mark::Def) {
-        return function(feed, arena, place, 1);
+impl Feed<'_, '_> {
+    // The names of a class, past the `class` at `place`.
+    fn class_names(&mut self, place: usize) -> Result<ClassNames, Stop>
+        ensures { NamesTold place self.old self.new result }
+    {
+        let name = self.take_name()?;
+        self.take_round(Depth::OUTSIDE)?;
+        let superclass = self.take_name()?;
+        self.take_mark(Mark::RightRound)?;
+        Ok(ClassNames { name, superclass })
     }
-    let name = take_name(feed)?;
-    take_mark(feed, Mark::Colon)?;
-    variable(feed, arena, name, 1)
 }
 
-// The members after those of a list, to the end of the class.
-fn class_members(feed: &mut Feed<'_, '_>, arena: &mut Arena, none: usize) -> Result<usize, Stop>
-    requires room { Room feed.old arena.old }
-    requires stored { none < length (arena_nodes arena.old) }
-    ensures { MembersTold none feed.old arena.old feed.new arena.new result }
-{
-    let mut before = none;
-    while !passes(feed, Mark::Dedent) {
-        let last = class_member(feed, arena)?;
-        before = store(arena, Node::MoreDeclarations { before, last });
+impl Parser<'_, '_> {
+    // One member of a class, which does not end here.
+    fn class_member(&mut self) -> Result<usize, Stop>
+        requires goes_on { Another Mark.Dedent (coming self.old.feed) }
+        ensures { Between (MemberTold) self.old self.new result }
+    {
+        if let Some(place) = self.feed.take_if(Mark::Def) {
+            return self.function(place, Depth::IN_CLASS);
+        }
+        let name = self.feed.take_name()?;
+        self.feed.take_mark(Mark::Colon)?;
+        self.variable(name, Depth::IN_CLASS)
     }
-    Ok(before)
-}
 
-// A class, past the `class` at `place`.
-pub(crate) fn class(feed: &mut Feed<'_, '_>, arena: &mut Arena, place: usize) -> Result<usize, Stop>
-    requires room { Room feed.old arena.old }
-    ensures { ClassTold place feed.old arena.old feed.new arena.new result }
-{
-    let ClassNames { name, superclass } = class_names(feed, place)?;
-    take_mark(feed, Mark::Colon)?;
-    take_indented(feed, 0)?;
-    let none = store(arena, Node::NoDeclarations);
-    let members = class_members(feed, arena, none)?;
-    Ok(store(
-        arena,
-        Node::ClassDefinition {
-            place,
-            name,
-            superclass,
-            members,
-        },
-    ))
+    // The members after those of a list, to the end of the class.
+    fn class_members(&mut self, none: usize) -> Result<usize, Stop>
+        requires stored { none < length (arena_nodes self.old.arena) }
+        ensures { Between (MembersTold none) self.old self.new result }
+    {
+        let mut before = none;
+        while !self.feed.passes(Mark::Dedent) {
+            let last = self.class_member()?;
+            before = store(&mut self.arena, Node::MoreDeclarations { before, last });
+        }
+        Ok(before)
+    }
+
+    // A class, past the `class` at `place`.
+    pub(crate) fn class(&mut self, place: usize) -> Result<usize, Stop>
+        ensures { Between (ClassTold place) self.old self.new result }
+    {
+        let ClassNames { name, superclass } = self.feed.class_names(place)?;
+        self.feed.take_mark(Mark::Colon)?;
+        self.feed.take_indented(Depth::OUTSIDE)?;
+        let none = store(&mut self.arena, Node::NoDeclarations);
+        let members = self.class_members(none)?;
+        Ok(store(
+            &mut self.arena,
+            Node::ClassDefinition {
+                place,
+                name,
+                superclass,
+                members,
+            },
+        ))
+    }
 }

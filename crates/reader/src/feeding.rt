@@ -4,7 +4,7 @@ ghost use Rattle.lexer.specs.Left.{bytes_of, left};
 ghost use Rattle.reader.specs.Feeds.{NextTold, coming, feed_of, feed_source, with_next};
 
 use crate::feeds::Feed;
-use crate::kinds::{Next, next_of};
+use crate::kinds::Next;
 use lexer::state::Lexer;
 
 // The next token of a lexer, as the grammar takes it.
@@ -12,10 +12,7 @@ fn read_next(lexer: &mut Lexer<'_, '_>) -> Option<Next>
     ensures next { with_next (bytes_of lexer.old) result (feed_of (left lexer.new)) ≡ feed_of (left lexer.old) }
     ensures bytes { bytes_of lexer.new ≡ bytes_of lexer.old }
 {
-    match lexer.next_token() {
-        Some(placed) => Some(next_of(placed)),
-        None => None,
-    }
+    lexer.next_token().map(Next::from)
 }
 
 impl<'a, 's> Feed<'a, 's> {

@@ -7,14 +7,14 @@ ghost use Rattle.reader.specs.Forms.{is_callable, is_target, rank_of, tight_of};
 
 use arena::nodes::{BinaryOperator, PrefixOperator};
 
-// The levels of operators between two operands, the loosest first.
+// The levels of operators between two operands, the loosest first: a higher one binds tighter.
 #[derive(Clone, Copy)]
 pub enum Rank {
-    Disjunction,
-    Conjunction,
-    Comparison,
-    Sum,
-    Product,
+    Disjunction = 1,
+    Conjunction = 2,
+    Comparison = 4,
+    Sum = 5,
+    Product = 6,
 }
 
 // The outside of an expression, parentheses included.
@@ -36,10 +36,10 @@ pub struct Read {
     pub node: usize,
 }
 
-impl Rank {
-    pub(crate) fn of(operator: BinaryOperator) -> Rank
-        ensures { rank_of result ≡ rank (binary_of operator) }
-    {
+impl From<BinaryOperator> for Rank {
+    ghost from_gives = { λ operator level. rank_of level ≡ rank (binary_of operator) };
+
+    fn from(operator: BinaryOperator) -> Rank {
         match operator {
             BinaryOperator::Or => Rank::Disjunction,
             BinaryOperator::And => Rank::Conjunction,
@@ -55,19 +55,14 @@ impl Rank {
                 Rank::Product,
         }
     }
+}
 
-    // The level: a higher one binds tighter.
+impl Rank {
     pub(crate) fn level(self) -> usize
         ensures value { result ≡ tree.level (rank_of self) }
         ensures most { result ≤ 6 }
     {
-        match self {
-            Rank::Disjunction => 1,
-            Rank::Conjunction => 2,
-            Rank::Comparison => 4,
-            Rank::Sum => 5,
-            Rank::Product => 6,
-        }
+        self as usize
     }
 
     // How tight the left operand must be: comparisons do not associate.
@@ -75,10 +70,8 @@ impl Rank {
         ensures { result ≡ tree.left (rank_of self) }
     {
         match self {
-            Rank::Disjunction => 1,
-            Rank::Conjunction => 2,
-            Rank::Comparison | Rank::Sum => 5,
-            Rank::Product => 6,
+            Rank::Comparison => self.level() + 1,
+            Rank::Disjunction | Rank::Conjunction | Rank::Sum | Rank::Product => self.level(),
         }
     }
 }
@@ -100,19 +93,13 @@ impl Form {
     pub(crate) fn is_callable(self) -> bool
         ensures { result ≡ is_callable self }
     {
-        match self {
-            Form::Named | Form::Member => true,
-            Form::Indexed | Form::Closed | Form::Binary(_) | Form::Prefix(_) => false,
-        }
+        matches!(self, Form::Named | Form::Member)
     }
 
     // Whether it may be assigned to.
     pub(crate) fn is_target(self) -> bool
         ensures { result ≡ is_target self }
     {
-        match self {
-            Form::Named | Form::Member | Form::Indexed => true,
-            Form::Closed | Form::Binary(_) | Form::Prefix(_) => false,
-        }
+        matches!(self, Form::Named | Form::Member | Form::Indexed)
     }
 }

@@ -2,16 +2,14 @@
 ghost use Rattle.std.specs.Prelude.{◌≡◌, ◌≤◌};
 ghost use Rattle.reader.specs.Functions.{FunctionTold, GlobalTold, HeadingTold, ResultTold};
 ghost use Rattle.reader.specs.Bodies.{FunctionBodyTold};
-ghost use Rattle.reader.specs.Keeping.{Room};
+ghost use Rattle.reader.specs.Parsers.{Between};
 
-use crate::bodies::{Body, function_body};
-use crate::feeds::Feed;
+use crate::answers::Routine;
+use crate::depths::Depth;
 use crate::kinds::Mark;
-use crate::parameters::parameters;
+use crate::parsers::Parser;
 use crate::refusals::Stop;
-use crate::taking::{store, take_mark, take_name};
-use crate::types::annotation;
-use arena::arenas::Arena;
+use crate::taking::store;
 use arena::nodes::{Node, Stretch};
 
 // A function's name, and its parameters' node.
@@ -21,75 +19,55 @@ pub(crate) struct Heading {
     pub(crate) parameters: usize,
 }
 
-// A function's name and parameters.
-fn name_and_parameters(
-    feed: &mut Feed<'_, '_>,
-    arena: &mut Arena,
-    place: usize,
-    depth: usize,
-) -> Result<Heading, Stop>
-    requires room { Room feed.old arena.old }
-    requires deep { depth ≤ 64 }
-    ensures { HeadingTold depth place feed.old arena.old feed.new arena.new result }
-{
-    let name = take_name(feed)?;
-    let parameters = parameters(feed, arena, depth)?;
-    Ok(Heading { name, parameters })
-}
+impl Parser<'_, '_> {
+    // A function's name and parameters.
+    fn name_and_parameters(&mut self, place: usize, depth: Depth) -> Result<Heading, Stop>
+        ensures { Between (HeadingTold depth.levels place) self.old self.new result }
+    {
+        let name = self.feed.take_name()?;
+        let parameters = self.parameters(depth)?;
+        Ok(Heading { name, parameters })
+    }
 
-// A function's result, with the arrow before it and the colon after it.
-fn result_type(feed: &mut Feed<'_, '_>, arena: &mut Arena, depth: usize) -> Result<usize, Stop>
-    requires room { Room feed.old arena.old }
-    requires deep { depth ≤ 64 }
-    ensures { ResultTold depth feed.old arena.old feed.new arena.new result }
-{
-    take_mark(feed, Mark::Arrow)?;
-    let result = annotation(feed, arena, depth)?;
-    take_mark(feed, Mark::Colon)?;
-    Ok(result)
-}
+    // A function's result, with the arrow before it and the colon after it.
+    fn result_type(&mut self, depth: Depth) -> Result<usize, Stop>
+        ensures { Between (ResultTold depth.levels) self.old self.new result }
+    {
+        self.feed.take_mark(Mark::Arrow)?;
+        let result = self.annotation(depth)?;
+        self.feed.take_mark(Mark::Colon)?;
+        Ok(result)
+    }
 
-// A function, past the `def` at `place`.
-pub(crate) fn function(
-    feed: &mut Feed<'_, '_>,
-    arena: &mut Arena,
-    place: usize,
-    depth: usize,
-) -> Result<usize, Stop>
-    requires room { Room feed.old arena.old }
-    requires deep { depth ≤ 64 }
-    ensures { FunctionTold depth place feed.old arena.old feed.new arena.new result }
-{
-    let Heading { name, parameters } = name_and_parameters(feed, arena, place, depth)?;
-    let result = result_type(feed, arena, depth)?;
-    let Body {
-        declarations,
-        statements,
-    } = function_body(feed, arena, depth)?;
-    Ok(store(
-        arena,
-        Node::FunctionDefinition {
-            place,
-            name,
-            parameters,
-            result,
+    // A function, past the `def` at `place`.
+    pub(crate) fn function(&mut self, place: usize, depth: Depth) -> Result<usize, Stop>
+        ensures { Between (FunctionTold depth.levels place) self.old self.new result }
+    {
+        let Heading { name, parameters } = self.name_and_parameters(place, depth)?;
+        let result = self.result_type(depth)?;
+        let Routine {
             declarations,
-            body: statements,
-        },
-    ))
-}
+            statements,
+        } = self.function_body(depth)?;
+        Ok(store(
+            &mut self.arena,
+            Node::FunctionDefinition {
+                place,
+                name,
+                parameters,
+                result,
+                declarations,
+                body: statements,
+            },
+        ))
+    }
 
-// A name of the global scope, past the `global` at `place`.
-pub(crate) fn global(
-    feed: &mut Feed<'_, '_>,
-    arena: &mut Arena,
-    place: usize,
-    depth: usize,
-) -> Result<usize, Stop>
-    requires room { Room feed.old arena.old }
-    ensures { GlobalTold depth place feed.old arena.old feed.new arena.new result }
-{
-    let name = take_name(feed)?;
-    take_mark(feed, Mark::Newline)?;
-    Ok(store(arena, Node::Global { place, name }))
+    // A name of the global scope, past the `global` at `place`.
+    pub(crate) fn global(&mut self, place: usize, depth: Depth) -> Result<usize, Stop>
+        ensures { Between (GlobalTold depth.levels place) self.old self.new result }
+    {
+        let name = self.feed.take_name()?;
+        self.feed.take_mark(Mark::Newline)?;
+        Ok(store(&mut self.arena, Node::Global { place, name }))
+    }
 }

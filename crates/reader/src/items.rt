@@ -3,20 +3,19 @@ ghost use Rattle.std.specs.Prelude.{◌≡◌, ◌≤◌, Some};
 ghost use Rattle.reader.specs.Bodies.{ItemTold};
 ghost use Rattle.reader.specs.Defining.{DefinedTold};
 ghost use Rattle.reader.specs.Feeds.{NextTold, coming, feed_source};
-ghost use Rattle.reader.specs.Keeping.{Room};
 ghost use Rattle.reader.specs.Lines.{NoWord};
 ghost use Rattle.reader.specs.Owners.{Owner};
 ghost use Rattle.reader.specs.Told.{NamedBy};
 ghost use Rattle.arena.specs.Tables.{arena_nodes};
+ghost use Rattle.reader.specs.Parsers.{Between};
 
-use crate::definitions::variable;
-use crate::expressions::expression;
+use crate::depths::Depth;
 use crate::feeds::Feed;
 use crate::forms::{Form, Read};
 use crate::kinds::{Mark, Next};
-use crate::lines::assignment;
+use crate::parsers::Parser;
 use crate::refusals::Stop;
-use crate::taking::{passes, store};
+use crate::taking::store;
 use arena::arenas::Arena;
 use arena::nodes::{Node, Stretch};
 
@@ -42,36 +41,25 @@ fn defined_name(feed: &mut Feed<'_, '_>, arena: &Arena, read: Read) -> Option<St
 {
     match read.form {
         Form::Named => match arena.node(read.node) {
-            Some(Node::Variable { name }) => {
-                if passes(feed, Mark::Colon) {
-                    Some(name)
-                } else {
-                    None
-                }
-            }
+            Some(Node::Variable { name }) => feed.passes(Mark::Colon).then_some(name),
             _ => None,
         },
         Form::Member | Form::Indexed | Form::Closed | Form::Binary(_) | Form::Prefix(_) => None,
     }
 }
 
-// A line of a body without statements so far, which begins with an expression, whose first token is here.
-pub(crate) fn first_line(
-    feed: &mut Feed<'_, '_>,
-    arena: &mut Arena,
-    next: Next,
-    depth: usize,
-) -> Result<Item, Stop>
-    requires room { Room feed.old arena.old }
-    requires deep { depth ≤ 64 }
-    requires facing { NextTold (feed_source feed.old) (coming feed.old) (Some next) }
-    requires kind { NoWord next.kind }
-    ensures { ItemTold (λ (x : Owner). Unit {0}) depth feed.old arena.old feed.new arena.new result }
-{
-    let first = expression(feed, arena, 0, depth)?;
-    if let Some(name) = defined_name(feed, arena, first) {
-        return Ok(Item::Declaration(variable(feed, arena, name, depth)?));
+impl Parser<'_, '_> {
+    // A line of a body without statements so far, which begins with an expression, whose first token is here.
+    pub(crate) fn first_line(&mut self, next: Next, depth: Depth) -> Result<Item, Stop>
+        requires facing { NextTold (feed_source self.old.feed) (coming self.old.feed) (Some next) }
+        requires kind { NoWord next.kind }
+        ensures { Between (ItemTold (λ (x : Owner). Unit {0}) depth.levels) self.old self.new result }
+    {
+        let first = self.expression(0, depth)?;
+        if let Some(name) = defined_name(&mut self.feed, &self.arena, first) {
+            return Ok(Item::Declaration(self.variable(name, depth)?));
+        }
+        let none = store(&mut self.arena, Node::NoExpressions);
+        Ok(Item::Statement(self.assignment(next.place, none, first, depth)?))
     }
-    let none = store(arena, Node::NoExpressions);
-    Ok(Item::Statement(assignment(feed, arena, next.place, none, first, depth)?))
 }

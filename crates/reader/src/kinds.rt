@@ -1,17 +1,16 @@
 // Tokens as the grammar takes them.
-ghost use Rattle.std.specs.Prelude.{◌≡◌, ℕ, List, ◌==◌};
+ghost use Rattle.std.specs.Prelude.{◌≡◌, ℕ, List};
 ghost use Rattle.lexis.specs.Tokens.{model, placed as stood};
 ghost use Rattle.syntax.specs.Reading.{keyword_kind, symbol_kind, token_of};
 ghost use Rattle.lexer.specs.Standing.{Stands};
 ghost use Rattle.reader.specs.Kinds.{kind_model, next_token};
-ghost use Rattle.reader.specs.Marks.{mark_number};
 
 use arena::nodes::BinaryOperator;
 use lexis::faults::Fault;
 use lexis::tokens::{Keyword, Placed, Symbol, Token};
 
 // What is only compared with what must come.
-#[derive(Clone, Copy)]
+#[derive(Clone, Copy, PartialEq, Eq)]
 pub enum Mark {
     RightRound,
     RightSquare,
@@ -70,99 +69,99 @@ pub struct Next {
     pub place: usize,
 }
 
-impl Mark {
-    pub(crate) fn is(self, other: Mark) -> bool
-        ensures { result ≡ (mark_number self == mark_number other) }
-    {
-        self as u8 == other as u8
+impl From<Keyword> for Kind {
+    ghost from_gives = { λ keyword kind. (src : List ℕ) (p : ℕ) → kind_model src p kind ≡ keyword_kind keyword };
+
+    fn from(keyword: Keyword) -> Kind {
+        match keyword {
+            Keyword::None => Kind::Constant(Constant::None),
+            Keyword::True => Kind::Constant(Constant::True),
+            Keyword::False => Kind::Constant(Constant::False),
+            Keyword::And => Kind::Operator(BinaryOperator::And),
+            Keyword::Or => Kind::Operator(BinaryOperator::Or),
+            Keyword::Is => Kind::Operator(BinaryOperator::Is),
+            Keyword::Not => Kind::Not,
+            Keyword::Class => Kind::Mark(Mark::Class),
+            Keyword::Def => Kind::Mark(Mark::Def),
+            Keyword::Global => Kind::Mark(Mark::Global),
+            Keyword::Nonlocal => Kind::Mark(Mark::Nonlocal),
+            Keyword::Pass => Kind::Mark(Mark::Pass),
+            Keyword::Return => Kind::Mark(Mark::Return),
+            Keyword::If => Kind::Mark(Mark::If),
+            Keyword::Elif => Kind::Mark(Mark::Elif),
+            Keyword::Else => Kind::Mark(Mark::Else),
+            Keyword::While => Kind::Mark(Mark::While),
+            Keyword::For => Kind::Mark(Mark::For),
+            Keyword::In => Kind::Mark(Mark::In),
+            Keyword::As
+            | Keyword::Assert
+            | Keyword::Async
+            | Keyword::Await
+            | Keyword::Break
+            | Keyword::Continue
+            | Keyword::Del
+            | Keyword::Except => Kind::Mark(Mark::Unused),
+            Keyword::Finally
+            | Keyword::From
+            | Keyword::Import
+            | Keyword::Lambda
+            | Keyword::Raise
+            | Keyword::Try
+            | Keyword::With
+            | Keyword::Yield => Kind::Mark(Mark::Unused),
+        }
     }
 }
 
-fn keyword_kind(keyword: Keyword) -> Kind
-    ensures { (src : List ℕ) (p : ℕ) → kind_model src p result ≡ keyword_kind keyword }
-{
-    match keyword {
-        Keyword::None => Kind::Constant(Constant::None),
-        Keyword::True => Kind::Constant(Constant::True),
-        Keyword::False => Kind::Constant(Constant::False),
-        Keyword::And => Kind::Operator(BinaryOperator::And),
-        Keyword::Or => Kind::Operator(BinaryOperator::Or),
-        Keyword::Is => Kind::Operator(BinaryOperator::Is),
-        Keyword::Not => Kind::Not,
-        Keyword::Class => Kind::Mark(Mark::Class),
-        Keyword::Def => Kind::Mark(Mark::Def),
-        Keyword::Global => Kind::Mark(Mark::Global),
-        Keyword::Nonlocal => Kind::Mark(Mark::Nonlocal),
-        Keyword::Pass => Kind::Mark(Mark::Pass),
-        Keyword::Return => Kind::Mark(Mark::Return),
-        Keyword::If => Kind::Mark(Mark::If),
-        Keyword::Elif => Kind::Mark(Mark::Elif),
-        Keyword::Else => Kind::Mark(Mark::Else),
-        Keyword::While => Kind::Mark(Mark::While),
-        Keyword::For => Kind::Mark(Mark::For),
-        Keyword::In => Kind::Mark(Mark::In),
-        Keyword::As
-        | Keyword::Assert
-        | Keyword::Async
-        | Keyword::Await
-        | Keyword::Break
-        | Keyword::Continue
-        | Keyword::Del
-        | Keyword::Except => Kind::Mark(Mark::Unused),
-        Keyword::Finally
-        | Keyword::From
-        | Keyword::Import
-        | Keyword::Lambda
-        | Keyword::Raise
-        | Keyword::Try
-        | Keyword::With
-        | Keyword::Yield => Kind::Mark(Mark::Unused),
-    }
-}
+impl From<Symbol> for Kind {
+    ghost from_gives = { λ symbol kind. (src : List ℕ) (p : ℕ) → kind_model src p kind ≡ symbol_kind symbol };
 
-fn symbol_kind(symbol: Symbol) -> Kind
-    ensures { (src : List ℕ) (p : ℕ) → kind_model src p result ≡ symbol_kind symbol }
-{
-    match symbol {
-        Symbol::Plus => Kind::Operator(BinaryOperator::Plus),
-        Symbol::Minus => Kind::Operator(BinaryOperator::Minus),
-        Symbol::Star => Kind::Operator(BinaryOperator::Times),
-        Symbol::Percent => Kind::Operator(BinaryOperator::Remainder),
-        Symbol::Divide => Kind::Operator(BinaryOperator::Divide),
-        Symbol::Less => Kind::Operator(BinaryOperator::Less),
-        Symbol::Greater => Kind::Operator(BinaryOperator::Greater),
-        Symbol::AtMost => Kind::Operator(BinaryOperator::AtMost),
-        Symbol::AtLeast => Kind::Operator(BinaryOperator::AtLeast),
-        Symbol::Equal => Kind::Operator(BinaryOperator::Equal),
-        Symbol::Differ => Kind::Operator(BinaryOperator::Unequal),
-        Symbol::Dot => Kind::Dot,
-        Symbol::LeftRound => Kind::LeftRound,
-        Symbol::LeftSquare => Kind::LeftSquare,
-        Symbol::RightRound => Kind::Mark(Mark::RightRound),
-        Symbol::RightSquare => Kind::Mark(Mark::RightSquare),
-        Symbol::Comma => Kind::Mark(Mark::Comma),
-        Symbol::Colon => Kind::Mark(Mark::Colon),
-        Symbol::Assign => Kind::Mark(Mark::Assign),
-        Symbol::Arrow => Kind::Mark(Mark::Arrow),
+    fn from(symbol: Symbol) -> Kind {
+        match symbol {
+            Symbol::Plus => Kind::Operator(BinaryOperator::Plus),
+            Symbol::Minus => Kind::Operator(BinaryOperator::Minus),
+            Symbol::Star => Kind::Operator(BinaryOperator::Times),
+            Symbol::Percent => Kind::Operator(BinaryOperator::Remainder),
+            Symbol::Divide => Kind::Operator(BinaryOperator::Divide),
+            Symbol::Less => Kind::Operator(BinaryOperator::Less),
+            Symbol::Greater => Kind::Operator(BinaryOperator::Greater),
+            Symbol::AtMost => Kind::Operator(BinaryOperator::AtMost),
+            Symbol::AtLeast => Kind::Operator(BinaryOperator::AtLeast),
+            Symbol::Equal => Kind::Operator(BinaryOperator::Equal),
+            Symbol::Differ => Kind::Operator(BinaryOperator::Unequal),
+            Symbol::Dot => Kind::Dot,
+            Symbol::LeftRound => Kind::LeftRound,
+            Symbol::LeftSquare => Kind::LeftSquare,
+            Symbol::RightRound => Kind::Mark(Mark::RightRound),
+            Symbol::RightSquare => Kind::Mark(Mark::RightSquare),
+            Symbol::Comma => Kind::Mark(Mark::Comma),
+            Symbol::Colon => Kind::Mark(Mark::Colon),
+            Symbol::Assign => Kind::Mark(Mark::Assign),
+            Symbol::Arrow => Kind::Mark(Mark::Arrow),
+        }
     }
 }
 
 // A token as the grammar takes it. A name, and what is between a string's quotes, stand in the source at their place.
-pub(crate) fn next_of(placed: Placed<'_>) -> Next
-    ensures { (src : List ℕ) → Stands src placed.entry.at (model placed.entry.token) → next_token src result ≡ token_of (stood placed.entry) }
-{
-    let place = placed.at;
-    let kind = match placed.token {
-        Token::Name(name) => Kind::Name(name.len()),
-        Token::Str(raw) => Kind::Text(raw.len()),
-        Token::Int(value) => Kind::Constant(Constant::Integer(value)),
-        Token::Keyword(keyword) => keyword_kind(keyword),
-        Token::Symbol(symbol) => symbol_kind(symbol),
-        Token::Newline => Kind::Mark(Mark::Newline),
-        Token::Indent => Kind::Mark(Mark::Indent),
-        Token::Dedent => Kind::Mark(Mark::Dedent),
-        Token::End => Kind::Mark(Mark::End),
-        Token::Fault(fault) => Kind::Fault(fault),
-    };
-    Next { kind, place }
+impl From<Placed<'_>> for Next {
+    ghost from_gives = { λ placed next. (src : List ℕ) → Stands src placed.at (model placed.token) → next_token src next ≡ token_of (stood placed) };
+
+    fn from(placed: Placed<'_>) -> Next {
+        let kind = match placed.token {
+            Token::Name(name) => Kind::Name(name.len()),
+            Token::Str(raw) => Kind::Text(raw.len()),
+            Token::Int(value) => Kind::Constant(Constant::Integer(value)),
+            Token::Keyword(keyword) => keyword.into(),
+            Token::Symbol(symbol) => symbol.into(),
+            Token::Newline => Kind::Mark(Mark::Newline),
+            Token::Indent => Kind::Mark(Mark::Indent),
+            Token::Dedent => Kind::Mark(Mark::Dedent),
+            Token::End => Kind::Mark(Mark::End),
+            Token::Fault(fault) => Kind::Fault(fault),
+        };
+        Next {
+            kind,
+            place: placed.at,
+        }
+    }
 }

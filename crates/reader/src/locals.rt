@@ -1,16 +1,13 @@
 // The body of a function.
 ghost use Rattle.reader.specs.Owners.{IsFunction};
 
-use crate::feeds::Feed;
-use crate::functions::global;
-use crate::heads::Head;
+use crate::depths::Depth;
 use crate::items::Item;
 use crate::kinds::{Mark, Next};
+use crate::parsers::Parser;
 use crate::refusals::Stop;
 use crate::scopes::Scope;
-use crate::statements::worded;
 use crate::taking::nested;
-use arena::arenas::Arena;
 
 pub(crate) struct Local;
 
@@ -22,21 +19,18 @@ impl Scope for Local {
     }
 
     fn marked_item(
-        feed: &mut Feed<'_, '_>,
-        arena: &mut Arena,
+        parser: &mut Parser<'_, '_>,
         next: Next,
         mark: Mark,
-        depth: usize,
+        depth: Depth,
     ) -> Result<Item, Stop> {
-        match Head::of(mark) {
-            Head::Def | Head::Nonlocal => Err(nested(next)),
-            Head::Global => {
-                feed.advance();
-                Ok(Item::Declaration(global(feed, arena, next.place, depth)?))
+        match mark {
+            Mark::Def | Mark::Nonlocal => Err(nested(next)),
+            Mark::Global => {
+                parser.feed.advance();
+                Ok(Item::Declaration(parser.global(next.place, depth)?))
             }
-            Head::Class | Head::Nothing => Ok(Item::Statement(worded(
-                feed, arena, next, mark, depth,
-            )?)),
+            _ => Ok(Item::Statement(parser.worded(next, mark, depth)?)),
         }
     }
 }

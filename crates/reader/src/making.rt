@@ -6,59 +6,26 @@ ghost use Rattle.grammar.specs.Tree as tree;
 ghost use Rattle.reader.specs.Forms.{tight_of};
 ghost use Rattle.reader.specs.Kinds.{constant_of};
 ghost use Rattle.arena.specs.Tables.{arena_limit, arena_nodes};
-ghost use Rattle.reader.specs.Growing.{Shown, growth_of};
+ghost use Rattle.reader.specs.Growing.{growth_of};
 ghost use Rattle.reader.specs.Told.{Made};
 
 use crate::forms::{Form, Rank, Read};
-use crate::kinds::{Constant, Kind, Next};
-use crate::starts::{Growth, Start};
+use crate::growths::Growth;
+use crate::kinds::{Constant, Kind};
 use crate::taking::store;
 use arena::arenas::Arena;
-use arena::nodes::{BinaryOperator, Literal, Node, PrefixOperator, Quotation, Stretch};
+use arena::nodes::{BinaryOperator, Literal, Node};
 
-pub(crate) fn literal(constant: Constant) -> Literal
-    ensures { (src : List ℕ) → literal_of src result ≡ constant_of constant }
-{
-    match constant {
-        Constant::None => Literal::None,
-        Constant::True => Literal::True,
-        Constant::False => Literal::False,
-        Constant::Integer(value) => Literal::Integer(value),
-    }
-}
+impl From<Constant> for Literal {
+    ghost from_gives = { λ constant literal. (src : List ℕ) → literal_of src literal ≡ constant_of constant };
 
-// What a token begins where an operand must come.
-pub(crate) fn start_of(next: Next) -> Start
-    ensures { (src : List ℕ) → Shown src next result }
-{
-    match next.kind {
-        Kind::Name(len) => Start::Name(Stretch {
-            at: next.place,
-            len,
-        }),
-        Kind::Text(len) => Start::Constant(Literal::Text(Quotation {
-            at: next.place,
-            len,
-        })),
-        Kind::Constant(constant) => Start::Constant(literal(constant)),
-        Kind::LeftRound => Start::Group,
-        Kind::LeftSquare => Start::List,
-        Kind::Not => Start::Sign(PrefixOperator::Not),
-        Kind::Operator(operator) => match operator {
-            BinaryOperator::Minus => Start::Sign(PrefixOperator::Negate),
-            BinaryOperator::Or | BinaryOperator::And | BinaryOperator::Is => Start::Nothing,
-            BinaryOperator::Plus
-            | BinaryOperator::Times
-            | BinaryOperator::Divide
-            | BinaryOperator::Remainder => Start::Nothing,
-            BinaryOperator::Equal
-            | BinaryOperator::Unequal
-            | BinaryOperator::Less
-            | BinaryOperator::Greater
-            | BinaryOperator::AtMost
-            | BinaryOperator::AtLeast => Start::Nothing,
-        },
-        Kind::Dot | Kind::Mark(_) | Kind::Fault(_) => Start::Nothing,
+    fn from(constant: Constant) -> Literal {
+        match constant {
+            Constant::None => Literal::None,
+            Constant::True => Literal::True,
+            Constant::False => Literal::False,
+            Constant::Integer(value) => Literal::Integer(value),
+        }
     }
 }
 
@@ -66,14 +33,8 @@ pub(crate) fn start_of(next: Next) -> Start
 fn is_operated(operator: BinaryOperator, form: Form, asks: usize) -> bool
     ensures { result ≡ (nat_le asks (tree.level (tree.rank (binary_of operator))) && nat_le (tree.left (tree.rank (binary_of operator))) (tight_of form)) }
 {
-    let rank = Rank::of(operator);
+    let rank = Rank::from(operator);
     asks <= rank.level() && rank.left() <= form.tight()
-}
-
-fn growth_if(holds: bool, growth: Growth) -> Option<Growth>
-    ensures { result ≡ (if holds then Some growth else None) }
-{
-    if holds { Some(growth) } else { None }
 }
 
 // What a token of this kind adds to an expression of this form, where one must be as tight as `asks`.
@@ -81,13 +42,12 @@ pub(crate) fn growth_of(kind: Kind, form: Form, asks: usize) -> Option<Growth>
     ensures { result ≡ growth_of kind form asks }
 {
     match kind {
-        Kind::Dot => growth_if(8 <= form.tight(), Growth::Member),
-        Kind::LeftRound => growth_if(form.is_callable(), Growth::Call),
-        Kind::LeftSquare => growth_if(8 <= form.tight(), Growth::Index),
-        Kind::Operator(operator) => growth_if(
-            is_operated(operator, form, asks),
-            Growth::Operator(operator),
-        ),
+        Kind::Dot => (8 <= form.tight()).then_some(Growth::Member),
+        Kind::LeftRound => form.is_callable().then_some(Growth::Call),
+        Kind::LeftSquare => (8 <= form.tight()).then_some(Growth::Index),
+        Kind::Operator(operator) => is_operated(operator, form, asks).then_some(Growth::Operator(
+            operator,
+        )),
         Kind::Name(_)
         | Kind::Text(_)
         | Kind::Constant(_)

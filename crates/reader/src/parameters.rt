@@ -3,15 +3,15 @@ ghost use Rattle.std.specs.Prelude.{◌≡◌, ◌+◌, ◌*◌, ◌<◌, ◌≤
 ghost use Rattle.arena.specs.Tables.{arena_nodes};
 ghost use Rattle.reader.specs.Functions.{MoreParametersTold, ParametersTold, SomeParametersTold};
 ghost use Rattle.reader.specs.Feeds.{coming, feed_source};
-ghost use Rattle.reader.specs.Keeping.{Kept, Room};
+ghost use Rattle.reader.specs.Keeping.{Kept};
 ghost use Rattle.reader.specs.Parameters.{ParameterTells};
+ghost use Rattle.reader.specs.Parsers.{Between};
 
-use crate::feeds::Feed;
+use crate::depths::Depth;
 use crate::kinds::Mark;
+use crate::parsers::Parser;
 use crate::refusals::Stop;
-use crate::taking::{passes, store, take_mark, take_name, take_round};
-use crate::types::annotation;
-use arena::arenas::Arena;
+use crate::taking::store;
 use arena::nodes::{Node, Stretch};
 
 // A parameter: its name, and its annotation's node.
@@ -21,81 +21,57 @@ pub(crate) struct Parameter {
     pub(crate) annotation: usize,
 }
 
-// Reads one parameter.
-pub(crate) fn one_parameter(
-    feed: &mut Feed<'_, '_>,
-    arena: &mut Arena,
-    depth: usize,
-) -> Result<Parameter, Stop>
-    requires room { Room feed.old arena.old }
-    requires deep { depth ≤ 64 }
-    ensures kept { Kept feed.old arena.old feed.new arena.new }
-    ensures tells { ParameterTells (feed_source feed.old) (arena_nodes arena.new) depth (coming feed.old) (coming feed.new) result }
-    ensures spare { OnOk result (length (arena_nodes arena.new) + 8 + 4 * length (coming feed.new) ≤ length (arena_nodes arena.old) + 4 * length (coming feed.old)) }
-{
-    let name = take_name(feed)?;
-    take_mark(feed, Mark::Colon)?;
-    let annotation = annotation(feed, arena, depth)?;
-    Ok(Parameter { name, annotation })
-}
-
-// One parameter more in a list.
-fn more_parameters(
-    feed: &mut Feed<'_, '_>,
-    arena: &mut Arena,
-    list: usize,
-    depth: usize,
-) -> Result<usize, Stop>
-    requires room { Room feed.old arena.old }
-    requires deep { depth ≤ 64 }
-    requires stored { list < length (arena_nodes arena.old) }
-    ensures { MoreParametersTold depth list feed.old arena.old feed.new arena.new result }
-{
-    let Parameter { name, annotation } = one_parameter(feed, arena, depth)?;
-    Ok(store(
-        arena,
-        Node::MoreParameters {
-            before: list,
-            name,
-            annotation,
-        },
-    ))
-}
-
-// One parameter or more, and the parenthesis that closes their list.
-fn some_parameters(
-    feed: &mut Feed<'_, '_>,
-    arena: &mut Arena,
-    empty: usize,
-    depth: usize,
-) -> Result<usize, Stop>
-    requires room { Room feed.old arena.old }
-    requires deep { depth ≤ 64 }
-    requires stored { empty < length (arena_nodes arena.old) }
-    ensures { SomeParametersTold depth empty feed.old arena.old feed.new arena.new result }
-{
-    let mut list = more_parameters(feed, arena, empty, depth)?;
-    while passes(feed, Mark::Comma) {
-        list = more_parameters(feed, arena, list, depth)?;
+impl Parser<'_, '_> {
+    // Reads one parameter.
+    pub(crate) fn one_parameter(&mut self, depth: Depth) -> Result<Parameter, Stop>
+        ensures kept { Kept self.old.feed self.old.arena self.new.feed self.new.arena }
+        ensures tells { ParameterTells (feed_source self.old.feed) (arena_nodes self.new.arena) depth.levels (coming self.old.feed) (coming self.new.feed) result }
+        ensures spare { OnOk result (length (arena_nodes self.new.arena) + 8 + 4 * length (coming self.new.feed) ≤ length (arena_nodes self.old.arena) + 4 * length (coming self.old.feed)) }
+    {
+        let name = self.feed.take_name()?;
+        self.feed.take_mark(Mark::Colon)?;
+        let annotation = self.annotation(depth)?;
+        Ok(Parameter { name, annotation })
     }
-    take_mark(feed, Mark::RightRound)?;
-    Ok(list)
-}
 
-// The parameters of a function, in their parentheses.
-pub(crate) fn parameters(
-    feed: &mut Feed<'_, '_>,
-    arena: &mut Arena,
-    depth: usize,
-) -> Result<usize, Stop>
-    requires room { Room feed.old arena.old }
-    requires deep { depth ≤ 64 }
-    ensures { ParametersTold depth feed.old arena.old feed.new arena.new result }
-{
-    take_round(feed, depth)?;
-    let empty = store(arena, Node::NoParameters);
-    if passes(feed, Mark::RightRound) {
-        return Ok(empty);
+    // One parameter more in a list.
+    fn more_parameters(&mut self, list: usize, depth: Depth) -> Result<usize, Stop>
+        requires stored { list < length (arena_nodes self.old.arena) }
+        ensures { Between (MoreParametersTold depth.levels list) self.old self.new result }
+    {
+        let Parameter { name, annotation } = self.one_parameter(depth)?;
+        Ok(store(
+            &mut self.arena,
+            Node::MoreParameters {
+                before: list,
+                name,
+                annotation,
+            },
+        ))
     }
-    some_parameters(feed, arena, empty, depth + 1)
+
+    // One parameter or more, and the parenthesis that closes their list.
+    fn some_parameters(&mut self, empty: usize, depth: Depth) -> Result<usize, Stop>
+        requires stored { empty < length (arena_nodes self.old.arena) }
+        ensures { Between (SomeParametersTold depth.levels empty) self.old self.new result }
+    {
+        let mut list = self.more_parameters(empty, depth)?;
+        while self.feed.passes(Mark::Comma) {
+            list = self.more_parameters(list, depth)?;
+        }
+        self.feed.take_mark(Mark::RightRound)?;
+        Ok(list)
+    }
+
+    // The parameters of a function, in their parentheses.
+    pub(crate) fn parameters(&mut self, depth: Depth) -> Result<usize, Stop>
+        ensures { Between (ParametersTold depth.levels) self.old self.new result }
+    {
+        let inner = self.feed.take_round(depth)?;
+        let empty = store(&mut self.arena, Node::NoParameters);
+        if self.feed.passes(Mark::RightRound) {
+            return Ok(empty);
+        }
+        self.some_parameters(empty, inner)
+    }
 }

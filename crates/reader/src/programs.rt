@@ -6,18 +6,15 @@ ghost use Rattle.reader.specs.Bodies.{verdict_of};
 ghost use Rattle.reader.specs.Feeds.{coming, feed_source};
 ghost use Rattle.reader.specs.Owners.{IsProgram};
 
-use crate::bodies::{Body, empty_body, whole_body};
-use crate::classes::class;
-use crate::feeds::Feed;
-use crate::functions::function;
-use crate::heads::Head;
+use crate::answers::Routine;
+use crate::bodies::empty_body;
+use crate::depths::Depth;
 use crate::items::Item;
 use crate::kinds::{Mark, Next};
+use crate::parsers::Parser;
 use crate::refusals::Stop;
 use crate::scopes::Scope;
-use crate::statements::worded;
 use crate::taking::stop_at;
-use arena::arenas::Arena;
 
 pub(crate) struct Whole;
 
@@ -29,38 +26,37 @@ impl Scope for Whole {
     }
 
     fn marked_item(
-        feed: &mut Feed<'_, '_>,
-        arena: &mut Arena,
+        parser: &mut Parser<'_, '_>,
         next: Next,
         mark: Mark,
-        depth: usize,
+        depth: Depth,
     ) -> Result<Item, Stop> {
-        match Head::of(mark) {
-            Head::Def => {
-                feed.advance();
-                Ok(Item::Declaration(function(feed, arena, next.place, depth)?))
+        match mark {
+            Mark::Def => {
+                parser.feed.advance();
+                Ok(Item::Declaration(parser.function(next.place, depth)?))
             }
-            Head::Class => {
-                feed.advance();
-                Ok(Item::Declaration(class(feed, arena, next.place)?))
+            Mark::Class => {
+                parser.feed.advance();
+                Ok(Item::Declaration(parser.class(next.place)?))
             }
-            Head::Global | Head::Nonlocal | Head::Nothing => Ok(Item::Statement(worded(
-                feed, arena, next, mark, depth,
-            )?)),
+            _ => Ok(Item::Statement(parser.worded(next, mark, depth)?)),
         }
     }
 }
 
-// The program that all tokens are.
-pub(crate) fn program(feed: &mut Feed<'_, '_>, arena: &mut Arena) -> Result<Body, Stop>
-    requires { length (arena_nodes arena.old) + 2 + 4 * length (coming feed.old) ≤ arena_limit arena.old }
-    ensures verdict { verdict_of (feed_source feed.old) (arena_nodes arena.new) result ≡ reads (coming feed.old) }
-    ensures limit { arena_limit arena.new ≡ arena_limit arena.old }
-{
-    let empty = empty_body(arena);
-    let whole = whole_body::<Whole>(feed, arena, empty, 0)?;
-    match feed.next() {
-        None => Ok(whole),
-        Some(next) => Err(stop_at(next)),
+impl Parser<'_, '_> {
+    // The program that all tokens are.
+    pub(crate) fn program(&mut self) -> Result<Routine, Stop>
+        requires { length (arena_nodes self.old.arena) + 2 + 4 * length (coming self.old.feed) ≤ arena_limit self.old.arena }
+        ensures verdict { verdict_of (feed_source self.old.feed) (arena_nodes self.new.arena) result ≡ reads (coming self.old.feed) }
+        ensures limit { arena_limit self.new.arena ≡ arena_limit self.old.arena }
+    {
+        let empty = empty_body(&mut self.arena);
+        let whole = self.whole_body::<Whole>(empty, Depth::OUTSIDE)?;
+        match self.feed.next() {
+            None => Ok(whole),
+            Some(next) => Err(stop_at(next)),
+        }
     }
 }

@@ -1,15 +1,15 @@
 // Reading a source: from its bytes to its tree, or to the first token that is refused.
-ghost use Rattle.std.specs.Prelude.{◌≡◌, ◌≤◌, [], length, IfOk, ◌≢◌};
-ghost use Rattle.arena.specs.Tables.{arena_limit, arena_nodes, node_at};
-ghost use Rattle.grammar.specs.Verdict.{incomplete, refused};
+ghost use Rattle.std.specs.Prelude.{◌≡◌, ◌≤◌, [], length, slice_get, IfOk, ◌≢◌};
+ghost use Rattle.arena.specs.Tables.{arena_limit, arena_nodes};
+ghost use Rattle.grammar.specs.Verdict.{incomplete};
 ghost use Rattle.syntax.specs.Reading.{reading};
-ghost use Rattle.reader.specs.Stops.{stop_of};
+ghost use Rattle.reader.specs.Stops.{refusal_verdict, stop_of};
 ghost use Rattle.reader.specs.Answers.{AnswerHolds, NothingLeft, answer_verdict, reader_nodes};
 
 use crate::answers::{Refusal, Routine};
-use crate::bodies::Body;
 use crate::feeds::Feed;
-use crate::programs::program;
+use crate::parsers::Parser;
+use crate::reasons::Reason;
 use crate::refusals::Stop;
 use crate::tables::Reader;
 use arena::arenas::Arena;
@@ -26,11 +26,11 @@ const MOST_NODES: usize = 4 * (3 * LONGEST_SOURCE + 2) + 2;
 // The refusal of a token; the tokens of a source do not end too soon.
 fn refusal_of(stop: Stop) -> Refusal
     requires { stop_of stop ≢ incomplete }
-    ensures { refused result.number result.place ≡ stop_of stop }
+    ensures { refusal_verdict result ≡ stop_of stop }
 {
     match stop {
-        Stop::Refused { number, place } => Refusal { number, place },
-        Stop::Unfinished => unreachable(),
+        Stop::Refused(refusal) => refusal,
+        Stop::Unfinished => unreachable!(),
     }
 }
 
@@ -43,19 +43,18 @@ fn read_short(arena: &mut Arena, slots: &mut [usize], source: &[u8]) -> Result<R
     ensures verdict { answer_verdict source.now (arena_nodes arena.new) result ≡ reading source.now }
     ensures limit { arena_limit arena.new ≡ arena_limit arena.old }
 {
-    let mut feed = Feed::new(Lexer::new(source, slots));
-    match program(&mut feed, arena) {
-        Ok(
-            Body {
-                declarations,
-                statements,
-            },
-        ) => Ok(Routine {
-            declarations,
-            statements,
-        }),
-        Err(stop) => Err(refusal_of(stop)),
-    }
+    let feed = Feed::new(Lexer::new(source, slots));
+    let mut parser = Parser {
+        feed,
+        arena: arena.take(),
+    };
+    let read = parser.program();
+    let Parser {
+        feed: _,
+        arena: filled,
+    } = parser;
+    *arena = filled;
+    read.map_err(refusal_of)
 }
 
 impl Reader {
@@ -77,7 +76,7 @@ impl Reader {
         self.arena.clear();
         if source.len() > LONGEST_SOURCE {
             return Err(Refusal {
-                number: 1,
+                reason: Reason::TooLong,
                 place: 0,
             });
         }
@@ -90,7 +89,7 @@ impl Reader {
 
     // The node at an index.
     pub fn node(&self, index: usize) -> Option<Node>
-        ensures { result ≡ node_at (reader_nodes self.now) index }
+        ensures { result ≡ slice_get (reader_nodes self.now) index }
     {
         self.arena.node(index)
     }

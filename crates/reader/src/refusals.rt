@@ -1,9 +1,10 @@
 // Why reading comes to no routine.
+use crate::answers::Refusal;
 
 #[derive(Clone, Copy)]
 pub enum Stop {
-    // a token is refused: its number and its place
-    Refused { number: u8, place: usize },
+    // a token is refused
+    Refused(Refusal),
     // the tokens end too soon
     Unfinished,
 }

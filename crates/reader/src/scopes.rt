@@ -2,15 +2,15 @@
 ghost use Rattle.std.specs.Prelude.{◌≡◌, ◌≤◌, Some};
 ghost use Rattle.reader.specs.Bodies.{ItemTold};
 ghost use Rattle.reader.specs.Feeds.{NextTold, coming, feed_source};
-ghost use Rattle.reader.specs.Keeping.{Room};
 ghost use Rattle.reader.specs.Kinds.{mark_of};
 ghost use Rattle.reader.specs.Owners.{Owner, body_mark};
+ghost use Rattle.reader.specs.Parsers.{Between};
 
-use crate::feeds::Feed;
+use crate::depths::Depth;
 use crate::items::Item;
 use crate::kinds::{Kind, Mark, Next};
+use crate::parsers::Parser;
 use crate::refusals::Stop;
-use arena::arenas::Arena;
 
 pub(crate) trait Scope {
     ghost owns: { Owner → Type 0 };
@@ -21,15 +21,12 @@ pub(crate) trait Scope {
 
     // A declaration or the first statement of a body, where a mark comes.
     fn marked_item(
-        feed: &mut Feed<'_, '_>,
-        arena: &mut Arena,
+        parser: &mut Parser<'_, '_>,
         next: Next,
         mark: Mark,
-        depth: usize,
+        depth: Depth,
     ) -> Result<Item, Stop>
-        requires room { Room feed.old arena.old }
-        requires deep { depth ≤ 64 }
-        requires facing { NextTold (feed_source feed.old) (coming feed.old) (Some next) }
+        requires facing { NextTold (feed_source parser.old.feed) (coming parser.old.feed) (Some next) }
         requires kind { next.kind ≡ Kind.Mark mark }
-        ensures { ItemTold owns depth feed.old arena.old feed.new arena.new result };
+        ensures { Between (ItemTold owns depth.levels) parser.old parser.new result };
 }

@@ -1,19 +1,19 @@
 // Taking what must come, and storing nodes.
-ghost use Rattle.std.specs.Prelude.{◌≡◌, ℕ, ◌<◌, ◌≤◌, true, List, [], ◌∷◌, ◌++◌, length, OnOk};
+ghost use Rattle.std.specs.Prelude.{◌≡◌, ℕ, ◌<◌, ◌≤◌, true, List, [], ◌∷◌, ◌++◌, length, OnOk, IsTrue, ◌↔◌};
 ghost use Rattle.arena.specs.Order.{before};
 ghost use Rattle.arena.specs.Tables.{arena_limit, arena_nodes};
 ghost use Rattle.grammar.specs.Verdict.{refused};
 ghost use Rattle.reader.specs.Feeds.{coming, feed_source};
 ghost use Rattle.reader.specs.Kinds.{next_token};
-ghost use Rattle.reader.specs.Marks.{is_marked};
 ghost use Rattle.reader.specs.Taking.{Bars, CameTold, MarkTold, NameTold, PassTold};
+ghost use Rattle.reader.specs.Reasons.{reason_number};
 ghost use Rattle.reader.specs.Stops.{stop_of};
-ghost use Rattle.reader.specs.Levels.{IndentTold, IndentedTold, RoundTold};
 
+use crate::answers::Refusal;
 use crate::feeds::Feed;
 use crate::kinds::{Kind, Mark, Next};
+use crate::reasons::Reason;
 use crate::refusals::Stop;
-use crate::types::MOST_LEVELS;
 use arena::arenas::Arena;
 use arena::nodes::{Node, Stretch};
 
@@ -28,29 +28,23 @@ pub(crate) fn store(arena: &mut Arena, node: Node) -> usize
     arena.push(node).unwrap()
 }
 
-// The token fits nowhere here: 6, or a fault's own number.
+// The token is refused for this reason.
+fn refuse(next: Next, reason: Reason) -> Stop
+    ensures { stop_of result ≡ refused (reason_number reason) next.place }
+{
+    Stop::Refused(Refusal {
+        reason,
+        place: next.place,
+    })
+}
+
+// The token fits nowhere here, or is a fault.
 pub(crate) fn stop_at(next: Next) -> Stop
     ensures { (src : List ℕ) → Bars (next_token src next) result }
 {
     match next.kind {
-        Kind::Fault(fault) => Stop::Refused {
-            number: fault.number(),
-            place: next.place,
-        },
-        Kind::Name(_)
-        | Kind::Text(_)
-        | Kind::Constant(_)
-        | Kind::Dot
-        | Kind::LeftRound
-        | Kind::LeftSquare
-        | Kind::Not
-        | Kind::Operator(_)
-        | Kind::Mark(_) => {
-            Stop::Refused {
-                number: 6,
-                place: next.place,
-            }
-        }
+        Kind::Fault(fault) => refuse(next, Reason::Lexical(fault)),
+        _ => refuse(next, Reason::Misplaced),
     }
 }
 
@@ -58,162 +52,77 @@ pub(crate) fn stop_at(next: Next) -> Stop
 pub(crate) fn too_deep(next: Next) -> Stop
     ensures { stop_of result ≡ refused 7 next.place }
 {
-    Stop::Refused {
-        number: 7,
-        place: next.place,
-    }
+    refuse(next, Reason::TooDeep)
 }
 
 // The token heads a definition in a function body.
 pub(crate) fn nested(next: Next) -> Stop
     ensures { stop_of result ≡ refused 8 next.place }
 {
-    Stop::Refused {
-        number: 8,
-        place: next.place,
-    }
+    refuse(next, Reason::Nested)
 }
 
 // Whether the next token is this mark.
-fn is_mark(next: Next, mark: Mark) -> bool
-    ensures { result ≡ is_marked next.kind mark }
+pub(crate) fn is_mark(next: Next, mark: Mark) -> bool
+    ensures { IsTrue result ↔ (next.kind ≡ Kind.Mark mark) }
 {
-    match next.kind {
-        Kind::Mark(found) => mark.is(found),
-        Kind::Name(_)
-        | Kind::Text(_)
-        | Kind::Constant(_)
-        | Kind::Dot
-        | Kind::LeftRound
-        | Kind::LeftSquare
-        | Kind::Not
-        | Kind::Operator(_)
-        | Kind::Fault(_) => false,
-    }
+    matches!(next.kind, Kind::Mark(found) if found == mark)
 }
 
-// Takes a mark that must come.
-pub(crate) fn take_mark(feed: &mut Feed<'_, '_>, mark: Mark) -> Result<(), Stop>
-    ensures told { MarkTold mark (coming feed.old) (coming feed.new) result }
-    ensures source { feed_source feed.new ≡ feed_source feed.old }
-{
-    let Some(next) = feed.next() else {
-        return Err(Stop::Unfinished);
-    };
-    if is_mark(next, mark) {
-        feed.advance();
-        Ok(())
-    } else {
-        Err(stop_at(next))
-    }
-}
-
-// Takes a name that must come.
-pub(crate) fn take_name(feed: &mut Feed<'_, '_>) -> Result<Stretch, Stop>
-    ensures told { NameTold (feed_source feed.old) (coming feed.old) (coming feed.new) result }
-    ensures source { feed_source feed.new ≡ feed_source feed.old }
-{
-    let Some(next) = feed.next() else {
-        return Err(Stop::Unfinished);
-    };
-    match next.kind {
-        Kind::Name(len) => {
-            feed.advance();
-            Ok(Stretch {
-                at: next.place,
-                len,
-            })
-        }
-        Kind::Text(_)
-        | Kind::Constant(_)
-        | Kind::Dot
-        | Kind::LeftRound
-        | Kind::LeftSquare
-        | Kind::Not
-        | Kind::Operator(_)
-        | Kind::Mark(_)
-        | Kind::Fault(_) => Err(stop_at(next)),
-    }
-}
-
-// Takes a mark that may come, and tells its place.
-pub(crate) fn take_if(feed: &mut Feed<'_, '_>, mark: Mark) -> Option<usize>
-    ensures told { CameTold mark (coming feed.old) (coming feed.new) result }
-    ensures source { feed_source feed.new ≡ feed_source feed.old }
-{
-    let Some(next) = feed.next() else {
-        return None;
-    };
-    if is_mark(next, mark) {
-        feed.advance();
-        Some(next.place)
-    } else {
-        None
-    }
-}
-
-// Takes a mark that may come, and tells whether it came.
-pub(crate) fn passes(feed: &mut Feed<'_, '_>, mark: Mark) -> bool
-    ensures told { PassTold mark (coming feed.old) (coming feed.new) result }
-    ensures source { feed_source feed.new ≡ feed_source feed.old }
-{
-    take_if(feed, mark).is_some()
-}
-
-// Takes an INDENT that must come, and opens a level.
-fn take_indent(feed: &mut Feed<'_, '_>, depth: usize) -> Result<(), Stop>
-    requires deep { depth ≤ 64 }
-    ensures told { IndentTold depth feed.old feed.new result }
-    ensures below { OnOk result (depth < 64) }
-{
-    let Some(next) = feed.next() else {
-        return Err(Stop::Unfinished);
-    };
-    if !is_mark(next, Mark::Indent) {
-        return Err(stop_at(next));
-    }
-    if depth >= MOST_LEVELS {
-        return Err(too_deep(next));
-    }
-    feed.advance();
-    Ok(())
-}
-
-// Takes the end of a line and the INDENT after it.
-pub(crate) fn take_indented(feed: &mut Feed<'_, '_>, depth: usize) -> Result<(), Stop>
-    requires deep { depth ≤ 64 }
-    ensures told { IndentedTold depth feed.old feed.new result }
-    ensures below { OnOk result (depth < 64) }
-{
-    take_mark(feed, Mark::Newline)?;
-    take_indent(feed, depth)
-}
-
-// Takes a parenthesis that must come, and opens a level.
-pub(crate) fn take_round(feed: &mut Feed<'_, '_>, depth: usize) -> Result<(), Stop>
-    requires deep { depth ≤ 64 }
-    ensures told { RoundTold depth feed.old feed.new result }
-    ensures below { OnOk result (depth < 64) }
-{
-    let Some(next) = feed.next() else {
-        return Err(Stop::Unfinished);
-    };
-    match next.kind {
-        Kind::LeftRound => {
-            if depth == MOST_LEVELS {
-                return Err(too_deep(next));
-            }
-            feed.advance();
+impl Feed<'_, '_> {
+    // Takes a mark that must come.
+    pub(crate) fn take_mark(&mut self, mark: Mark) -> Result<(), Stop>
+        ensures told { MarkTold mark (coming self.old) (coming self.new) result }
+        ensures source { feed_source self.new ≡ feed_source self.old }
+    {
+        let Some(next) = self.next() else {
+            return Err(Stop::Unfinished);
+        };
+        if is_mark(next, mark) {
+            self.advance();
             Ok(())
+        } else {
+            Err(stop_at(next))
         }
-        Kind::Name(_)
-        | Kind::Text(_)
-        | Kind::Constant(_)
-        | Kind::Dot
-        | Kind::LeftSquare
-        | Kind::Not
-        | Kind::Operator(_)
-        | Kind::Mark(_)
-        | Kind::Fault(_) => Err(stop_at(next)),
+    }
+
+    // Takes a name that must come.
+    pub(crate) fn take_name(&mut self) -> Result<Stretch, Stop>
+        ensures told { NameTold (feed_source self.old) (coming self.old) (coming self.new) result }
+        ensures source { feed_source self.new ≡ feed_source self.old }
+    {
+        let Some(next) = self.next() else {
+            return Err(Stop::Unfinished);
+        };
+        let Kind::Name(len) = next.kind else {
+            return Err(stop_at(next));
+        };
+        self.advance();
+        Ok(Stretch {
+            at: next.place,
+            len,
+        })
+    }
+
+    // Takes a mark that may come, and tells its place.
+    pub(crate) fn take_if(&mut self, mark: Mark) -> Option<usize>
+        ensures told { CameTold mark (coming self.old) (coming self.new) result }
+        ensures source { feed_source self.new ≡ feed_source self.old }
+    {
+        let next = self.next()?;
+        if is_mark(next, mark) {
+            self.advance();
+            Some(next.place)
+        } else {
+            None
+        }
+    }
+
+    // Takes a mark that may come, and tells whether it came.
+    pub(crate) fn passes(&mut self, mark: Mark) -> bool
+        ensures told { PassTold mark (coming self.old) (coming self.new) result }
+        ensures source { feed_source self.new ≡ feed_source self.old }
+    {
+        self.take_if(mark).is_some()
     }
 }

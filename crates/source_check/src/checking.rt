@@ -20,8 +20,8 @@ pub fn check_source(heap: Global, input: &[u8]) -> Result<PrintBuffer, AllocErro
     let mut reader = Reader::new(heap)?;
     match reader.read(input) {
         Ok(_) => append_pair(&mut out, 0, 0).unwrap(),
-        Err(Refusal { number, place }) => {
-            append_pair(&mut out, u32::from(number), place as u32).unwrap();
+        Err(Refusal { reason, place }) => {
+            append_pair(&mut out, u32::from(reason.number()), place as u32).unwrap();
         }
     }
     Ok(out)

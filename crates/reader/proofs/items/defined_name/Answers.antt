@@ -1,9 +1,10 @@
-use Rattle.std.proofs.Common.{◌≡◌, ℕ, ◌⊎◌, true, List, [], ◌∷◌, Some, sym, subst, ◌∙◌, refl, ap, inl, inr}
+use Rattle.std.proofs.Common.{◌≡◌, ℕ, ◌⊎◌, Bool, true, false, List, [], ◌∷◌, slice_get, Some, sym, subst, ◌∙◌, refl, ap, inl, inr}
+use Rattle.std.specs.Bool.{then_some}
 use mathlib.Core.Option.{none}
 use Rattle.arena.specs.declared.nodes.PrefixOperator.{PrefixOperator}
 use Rattle.arena.proofs.Growth.{trees_stand}
 use Rattle.arena.specs.Order.{ordered}
-use Rattle.arena.specs.Tables.{arena_nodes, node_at}
+use Rattle.arena.specs.Tables.{arena_nodes}
 use Rattle.arena.specs.Trees.{Phrase, phrase, spelled}
 use Rattle.arena.specs.declared.nodes.Node.{Node}
 use Rattle.arena.specs.declared.nodes.Stretch.{Stretch}
@@ -13,7 +14,8 @@ use Rattle.grammar.specs.Reader.{Body, Frame, arms, base, declared, eachs, eithe
 use Rattle.reader.specs.Feeds.{coming}
 use Rattle.reader.specs.Forms.{form_of}
 use Rattle.reader.specs.Places.{Unsaid}
-use Rattle.reader.specs.Taking.{Another}
+use Rattle.reader.specs.Defining.{DefinedTold}
+use Rattle.reader.specs.Taking.{Another, PassTold}
 use Rattle.reader.specs.Told.{NamedAt, NamedBy}
 use Rattle.reader.specs.declared.forms.Form.{Form}
 use Rattle.reader.specs.declared.forms.Read.{Read}
@@ -58,17 +60,11 @@ unnamed : (e : Expr) (b : Body) (p : ℕ) (f : Form) (ts : List Token) → Unnam
 unnamed e b p f [] h = tt
 unnamed e b p f (t ∷ ts) h = undefined b p (form_of f e) t (λ fr. no_name e fr p f t h)
 
-pub returns-else-passes : goal.returns-else-passes
-returns-else-passes c =
-    let r = c.args.read in
-    let go = c.if-passes.ensures in
-    record { told = (go.told.0, (λ e b. uncoloned b r.place (form_of r.form e) (coming c.args.feed.now) go.told.1)); source = go.source }
-
 pub returns-in-Member : goal.returns-in-Member
 returns-in-Member c = let r = c.args.read in record { told = (refl, (λ e b. unnamed e b r.place r.form (coming c.args.feed.now) c.in-Member.is)); source = refl }
 
 -- the name's node stands for a variable at its place
-named_here : (ns : List Node) (r : Read) (name : Stretch) → ordered 0 ns ≡ true → r.form ≡ Form.Named → NamedBy ns r → node_at ns r.node ≡ Some (Node.Variable name)
+named_here : (ns : List Node) (r : Read) (name : Stretch) → ordered 0 ns ≡ true → r.form ≡ Form.Named → NamedBy ns r → slice_get ns r.node ≡ Some (Node.Variable name)
     → (name.at ≡ r.place) × ((src : List ℕ) → (phrase src ns r.node).expr ≡ tree.var r.place (spelled src name))
 named_here ns r name sorted is named here =
     let k : NamedAt ns Form.Named r.place r.node = subst (λ f. NamedAt ns f r.place r.node) is named in
@@ -77,7 +73,18 @@ named_here ns r name sorted is named here =
     let place : name.at ≡ r.place = sym (ap (λ (s : Stretch). s.at) same) ∙ k.1.0 in
     (place, (λ src. ap (λ (x : Phrase). x.expr) (trees_stand.unfolds src ns r.node (Node.Variable name) sorted here) ∙ ap (λ i. tree.var i (spelled src name)) place))
 
-pub returns-then-passes-clause-told : goal.returns-then-passes-clause-told
-returns-then-passes-clause-told c =
-    let here = named_here (arena_nodes c.args.arena.now) c.args.read c.in-Some-Variable.name c.args.arena.now.sorted c.in-Named.is c.requires.named (sym c.node.ensures ∙ c.in-Some-Variable.is ∙ ap Some c.in-Some-Variable.field-0-is) in
-    (c.in-Named.is, here.0, here.1, c.if-passes.ensures.told)
+-- a name is told if a colon comes after it
+told_if : (ns : List Node) (r : Read) (ts us : List Token) (b : Bool) (s : Stretch) → r.form ≡ Form.Named → s.at ≡ r.place → ((src : List ℕ) → (phrase src ns r.node).expr ≡ tree.var r.place (spelled src s)) → PassTold Mark.Colon ts us b
+    → DefinedTold ns r.place r.form r.node ts us (then_some b s)
+told_if ns r ts us true s is place stands told = (is, place, stands, told)
+told_if ns r ts us false s is place stands told = (told.0, (λ e b. uncoloned b r.place (form_of r.form e) ts told.1))
+
+pub returns-in-Some-Variable-clause-told : goal.returns-in-Some-Variable-clause-told
+returns-in-Some-Variable-clause-told c =
+    let r = c.args.read in
+    let ns = arena_nodes c.args.arena.now in
+    let s = c.in-Some-Variable.name in
+    let here = named_here ns r s c.args.arena.now.sorted c.in-Named.is c.requires.named (sym c.node.ensures ∙ c.in-Some-Variable.is ∙ ap Some c.in-Some-Variable.field-0-is) in
+    let ts = coming c.args.feed.now in
+    let us = coming c.passes.new.self in
+    subst (DefinedTold ns r.place r.form r.node ts us) (sym c.then_some.ensures) (told_if ns r ts us c.passes.result s c.in-Named.is here.0 here.1 c.passes.ensures.told)

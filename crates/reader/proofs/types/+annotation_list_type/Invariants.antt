@@ -1,8 +1,0 @@
-use Rattle.std.proofs.Common.{◌+◌, ◌-◌, ◌*◌}
-use Rattle.reader.proofs.types.+annotation_list_type.Given as goal
-
-abbrev pub decreases-annotation : goal.decreases-annotation
-decreases-annotation l = 2 * (64 - l.depth) + 1
-
-abbrev pub decreases-list_type : goal.decreases-list_type
-decreases-list_type l = 2 * (64 - l.depth)

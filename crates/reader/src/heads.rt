@@ -1,9 +1,0 @@
-// What a mark begins where a declaration may come.
-#[derive(Clone, Copy)]
-pub enum Head {
-    Class,
-    Def,
-    Global,
-    Nonlocal,
-    Nothing,
-}
