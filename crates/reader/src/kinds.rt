@@ -38,7 +38,7 @@ pub enum Mark {
     Unused,
 }
 
-// A constant that is no string.
+// A constant that is no string: a string's literal needs the place too, which a kind does not have.
 #[derive(Clone, Copy)]
 pub enum Constant {
     None,
@@ -62,7 +62,8 @@ pub enum Kind {
     Fault(Fault),
 }
 
-// The next token, and its place.
+// The next token, and its place. That it is the next one of a feed is a fact about both, and ends when the feed goes on: so
+// the functions that take it ask for the fact, and no type has it.
 #[derive(Clone, Copy)]
 pub struct Next {
     pub kind: Kind,

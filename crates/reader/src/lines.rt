@@ -53,7 +53,7 @@ impl Parser<'_, '_> {
 }
 
 impl Feed<'_, '_> {
-    // Whether an expression of this form is assigned to; then the `=` after it is taken.
+    // Whether an expression of this form is assigned to; then the `=` after it is taken. An answer, not a failure.
     fn is_assigned(&mut self, form: Form) -> bool
         ensures told { AssignedTold form (coming self.old) (coming self.new) result }
         ensures source { feed_source self.new ≡ feed_source self.old }

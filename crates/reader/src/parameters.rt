@@ -50,7 +50,8 @@ impl Parser<'_, '_> {
         ))
     }
 
-    // One parameter or more, and the parenthesis that closes their list.
+    // One parameter or more, and the parenthesis that closes their list. Lists of expressions have a loop like this one: a loop
+    // for both would take what reads an element as a closure, which would need the parser that the loop has.
     fn some_parameters(&mut self, empty: usize, depth: Depth) -> Result<usize, Stop>
         requires stored { empty < length (arena_nodes self.old.arena) }
         ensures { Between (SomeParametersTold depth.levels empty) self.old self.new result }

@@ -1,4 +1,4 @@
-// Why reading comes to no routine.
+// Why reading comes to no routine: an enum, since an error `None` would not say what it means.
 use crate::answers::Refusal;
 
 #[derive(Clone, Copy)]

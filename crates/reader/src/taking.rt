@@ -118,7 +118,7 @@ impl Feed<'_, '_> {
         }
     }
 
-    // Takes a mark that may come, and tells whether it came.
+    // Takes a mark that may come, and tells whether it came: an answer, not a failure.
     pub(crate) fn passes(&mut self, mark: Mark) -> bool
         ensures told { PassTold mark (coming self.old) (coming self.new) result }
         ensures source { feed_source self.new ≡ feed_source self.old }

@@ -8,9 +8,5 @@ pub(crate) fn next_source(input: &[u8]) -> Option<(&[u8], &[u8])>
     let [high, low, rest @ ..] = input else {
         return None;
     };
-    let size = 256 * (*high as usize) + *low as usize;
-    if size > rest.len() {
-        return None;
-    }
-    Some(rest.split_at(size))
+    rest.split_at_checked(usize::from(u16::from_be_bytes([*high, *low])))
 }
