@@ -1,4 +1,4 @@
--- What checking some bytes answers, and what bytes a checked value holds.
+-- What checking some bytes answers.
 use Rattle.std.specs.Prelude.{◌≡◌, ℕ, List, Some, None, Ok, Err, Option, Result}
 use Rattle.host.specs.declared.checks.CheckError.{CheckError}
 use Rattle.host.specs.declared.checks.CheckError.TheVariants.{Flawed, NoMemory}
