@@ -29,9 +29,15 @@ is_gap (Mode.Fresh c) k = is_space k || ends_line k
 is_gap Mode.Inside k = is_space k
 is_gap Mode.Over k = false
 
+-- the column that a line's start has come to
+abbrev pub width : Mode → ℕ
+width (Mode.Fresh c) = c
+width Mode.Inside = 0
+width Mode.Over = 0
+
 -- a byte widens a line's start by at most eight columns
 abbrev pub Narrow : Spot → Type 0
-Narrow x = elim x.mode [ Mode.Fresh c ↦ c ≤ 8 * x.pos | Mode.Inside ↦ Unit {0} | Mode.Over ↦ Unit {0} ]
+Narrow x = width x.mode ≤ 8 * x.pos
 
 -- the same tokens are ahead of both spots, whatever levels are open
 abbrev pub Leads : List ℕ → Spot → Spot → Type 0

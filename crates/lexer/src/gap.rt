@@ -83,6 +83,7 @@ fn step_gap(source: Source<'_>, spot: Spot) -> Option<Spot>
 pub fn past_gap(source: Source<'_>, start: Spot) -> Spot
     requires { Narrow start }
     ensures leads { Leads source.entry.bytes.now start result }
+    ensures narrow { Narrow result }
     ensures stops { Stops source.entry.bytes.now result }
 {
     let mut spot = start;

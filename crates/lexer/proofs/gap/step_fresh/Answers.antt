@@ -1,12 +1,9 @@
 use Rattle.std.proofs.Common.{◌+◌, drop, sym, ap, ◌∙◌, arith}
+use Rattle.lexis.proofs.Going.{fresh_move}
 use Rattle.lexis.specs.Lines.{lex}
-use Rattle.lexis.specs.declared.lines.Mode.{Mode}
-use Rattle.lexis.proofs.Going.{fresh_move, past_comment, comment_some}
-use Rattle.std.specs.List.{prefix_len}
-use Rattle.std.proofs.lemmas.List.{take_rest}
 use Rattle.lexis.specs.declared.bytes.Class.TheVariants.{Hash}
-use Rattle.lexis.specs.Runs.{in_run}
-use Rattle.lexis.specs.declared.scans.Run.{Run}
+use Rattle.lexis.specs.declared.lines.Mode.{Mode}
+use Rattle.lexer.proofs.Comments.{comment_passes}
 use Rattle.lexer.proofs.gap.step_fresh.Goals as goal
 
 pub returns-in-Blank : goal.returns-in-Blank
@@ -21,24 +18,15 @@ returns-in-Blank c =
     }
 
 pub returns-in-LineEnd : goal.returns-in-LineEnd
-returns-in-LineEnd c =
-    let s = c.args.source.bytes.now in
-    record {
-      leads = λ ls. fresh_move s c.args.pos c.args.column ls _ c.if-pos-source.false c.in-LineEnd.ensures;
-      narrow = omega arith;
-      on = omega arith;
-      within = omega arith;
-    }
+returns-in-LineEnd c = record {
+  leads = λ ls. fresh_move c.args.source.bytes.now c.args.pos c.args.column ls _ c.if-pos-source.false c.in-LineEnd.ensures;
+  narrow = omega arith;
+  on = omega arith;
+  within = omega arith;
+}
 
 pub returns-in-Hash : goal.returns-in-Hash
 returns-in-Hash c =
     let s = c.args.source.bytes.now in
-    let p = c.args.pos in
-    let n = c.run_len.result in
-    let k = comment_some s p n c.if-pos-source.false c.in-Hash.ensures (c.run_len.ensures.value ∙ ap (prefix_len (in_run Run.Comment)) (take_rest s p)) in
-    record {
-      leads = λ ls. fresh_move s p c.args.column ls Hash c.if-pos-source.false c.in-Hash.ensures ∙ past_comment s p n (Mode.Fresh c.args.column) ls k;
-      narrow = omega (arith, k);
-      on = omega (arith, k);
-      within = k.1;
-    }
+    comment_passes s c.args.pos c.run_len.result (Mode.Fresh c.args.column) c.if-pos-source.false c.in-Hash.ensures c.run_len.ensures.value c.requires
+    (λ ls. fresh_move s c.args.pos c.args.column ls Hash c.if-pos-source.false c.in-Hash.ensures)
