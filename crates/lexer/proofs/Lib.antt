@@ -1,5 +1,5 @@
 pub mod Among
-pub mod Comments
+pub mod Passing
 pub mod Digits
 pub mod Moves
 pub mod Rooms

@@ -88,7 +88,7 @@ module _ (s : List ℕ) (l : Stack ℕ) (p : ℕ) (r : Sized) (h : p < length s)
   module _ (c : ℕ) (e : is_gap (Mode.Fresh c) (class_of (get_or s p 0)) ≡ false) where
     pub wrong : is_fault (model r.token) ≡ true → Stepped s l (at p (Mode.Fresh c)) (to r.token p Mode.Over) l
     wrong w = record {
-      given = wrong_first s p (model r.token) r.size h q (free l) c (held l) p e w;
+      given = wrong_first s p (model r.token) r.size h q (free l) c (held l) e w;
       stands = stands s p r q;
       narrow = omega arith;
     }
@@ -103,7 +103,7 @@ module _ (s : List ℕ) (l : Stack ℕ) (p : ℕ) (r : Sized) (h : p < length s)
 
       pub misfit : Level.Nowhere ≡ level_of c (held l) → Stepped s l (at p (Mode.Fresh c)) (to (Token.Fault Fault.Indentation) p Mode.Over) l
       misfit g = record {
-        given = nowhere_first s p (model r.token) r.size h q c e w (free l) (held l) p g;
+        given = nowhere_first s p (model r.token) r.size h q c e w (free l) (held l) g;
         stands = tt;
         narrow = omega arith;
       }

@@ -1,5 +1,5 @@
 -- What stands between tokens.
-use Rattle.std.specs.Prelude.{◌≡◌, ℕ, ◌*◌, ◌<◌, ◌≤◌, Bool, true, false, ◌||◌, List, length, drop, slice_index}
+use Rattle.std.specs.Prelude.{◌≡◌, ℕ, ◌*◌, ◌<◌, ◌≤◌, Bool, true, false, ◌||◌, List, length, drop, slice_index, Option, MatchOption}
 use Rattle.lexis.specs.Bytes.{class_of}
 use Rattle.lexis.specs.declared.bytes.Class.{Class}
 use Rattle.lexis.specs.declared.bytes.Class.TheVariants.{Blank, LineEnd, Hash, Letter, Digit, Quote, Mark, Other}
@@ -52,3 +52,7 @@ pub record Passes (s : List ℕ) (x y : Spot) : Type 0 where
   pub narrow : Narrow y
   pub on : x.pos < y.pos
   pub within : y.pos ≤ length s
+
+-- one step over what gives no token, or none where that stops
+abbrev pub Passed : List ℕ → Spot → Option Spot → Type 0
+Passed s x r = MatchOption r (Stops s x) (λ y. Passes s x y)
