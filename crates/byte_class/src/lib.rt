@@ -267,6 +267,7 @@ static CLASSES: [Class; 256] = [
     Class::Other,
 ];
 
+// Apart from `class_of`, so that one computed test of the whole table stands here, and the step to each byte there.
 fn entry(b: u8) -> Class
     ensures { result ≡ slice_index_or classes b Blank }
 {

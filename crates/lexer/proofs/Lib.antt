@@ -1,7 +1,8 @@
 pub mod Among
-pub mod Fronts
+pub mod Passing
+pub mod Digits
 pub mod Moves
-pub mod Quotes
 pub mod Rooms
 pub mod Spelled
 pub mod Standing
+pub mod Steps

@@ -134,12 +134,12 @@ module _ (s : List ℕ) (p : ℕ) (t : Tok) (n : ℕ) (h : p < length s) (q : (t
       fresh_move s p c ls here h refl ∙ ap (goes s p) (fresh_token here p c ls (get_or s p 0 ∷ drop (p + 1) s) e)
       ∙ ap (λ (x : Tok × ℕ). goes s p (begun p c ls x)) found
 
-  pub wrong_first : (free c : ℕ) (ls : List ℕ) (k : ℕ) → is_gap (Mode.Fresh c) here ≡ false → is_fault t ≡ true → within free (lex (Mode.Fresh c) ls 0 p (drop p s)) ≡ (p, t) ∷ within free (lex Mode.Over ls 0 k (drop k s))
-  wrong_first free c ls k e w =
+  pub wrong_first : (free c : ℕ) (ls : List ℕ) → is_gap (Mode.Fresh c) here ≡ false → is_fault t ≡ true → within free (lex (Mode.Fresh c) ls 0 p (drop p s)) ≡ (p, t) ∷ within free (lex Mode.Over ls 0 p (drop p s))
+  wrong_first free c ls e w =
       ap (within free) (start_goes c ls e ∙ ap (goes s p) (cond-true _ _ _ w)
       ∙ ap (λ (m : Mode). (p, t) ∷ lex m ls (n - 1) (p + 1) (drop (p + 1) s)) (cond-true _ _ _ w)
-      ∙ ap (λ l. (p, t) ∷ l) (lex_over ls (n - 1) (p + 1) (drop (p + 1) s) ∙ sym (lex_over ls 0 k (drop k s))))
-      ∙ given free (lex Mode.Over ls 0 k (drop k s))
+      ∙ ap (λ l. (p, t) ∷ l) (lex_over ls (n - 1) (p + 1) (drop (p + 1) s) ∙ sym (lex_over ls 0 p (drop p s))))
+      ∙ given free (lex Mode.Over ls 0 p (drop p s))
 
   module _ (c : ℕ) (e : is_gap (Mode.Fresh c) here ≡ false) (w : is_fault t ≡ false) where
     settles : (ls : List ℕ) → lex (Mode.Fresh c) ls 0 p (drop p s) ≡ goes s p (settle p c (t, n) ls)
@@ -151,10 +151,10 @@ module _ (s : List ℕ) (p : ℕ) (t : Tok) (n : ℕ) (h : p < length s) (q : (t
     pub same_first : (free : ℕ) (ls : List ℕ) → Level.Same ≡ level_of c ls → within free (lex (Mode.Fresh c) ls 0 p (drop p s)) ≡ (p, t) ∷ within free (lex Mode.Inside ls 0 (p + n) (drop (p + n) s))
     same_first free ls l = ap (within free) (settles ls ∙ ap (goes s p) (settle_same p c (t, n) ls l) ∙ taken ls Mode.Inside (sym inner)) ∙ given free (lex Mode.Inside ls 0 (p + n) (drop (p + n) s))
 
-    pub nowhere_first : (free : ℕ) (ls : List ℕ) (k : ℕ) → Level.Nowhere ≡ level_of c ls → within free (lex (Mode.Fresh c) ls 0 p (drop p s)) ≡ (p, Tok.fault Fault.Indentation) ∷ within free (lex Mode.Over ls 0 k (drop k s))
-    nowhere_first free ls k l =
+    pub nowhere_first : (free : ℕ) (ls : List ℕ) → Level.Nowhere ≡ level_of c ls → within free (lex (Mode.Fresh c) ls 0 p (drop p s)) ≡ (p, Tok.fault Fault.Indentation) ∷ within free (lex Mode.Over ls 0 p (drop p s))
+    nowhere_first free ls l =
         ap (within free) (settles ls ∙ ap (goes s p) (settle_nowhere p c (t, n) ls l)
-        ∙ ap (λ x. (p, Tok.fault Fault.Indentation) ∷ x) (lex_over ls 0 (p + 1) (drop (p + 1) s) ∙ sym (lex_over ls 0 k (drop k s))))
+        ∙ ap (λ x. (p, Tok.fault Fault.Indentation) ∷ x) (lex_over ls 0 (p + 1) (drop (p + 1) s) ∙ sym (lex_over ls 0 p (drop p s))))
 
     deeper : (ls : List ℕ) → Level.Deeper ≡ level_of c ls → lex (Mode.Fresh c) ls 0 p (drop p s) ≡ (p, Tok.indent) ∷ lex Mode.Inside (c ∷ ls) 0 p (drop p s)
     deeper ls l =

@@ -1,7 +1,6 @@
--- A number that stops growing once it is above the limit.
-use Rattle.std.specs.Prelude.{◌≡◌, ℕ, ◌<◌, ◌≤◌}
+-- A number of digits, as long as it is at most the limit.
+use Rattle.std.specs.Prelude.{ℕ, cond, Some, None, Option, nat_le}
+use Rattle.lexis.specs.Numbers.{with_digit}
 
--- n is the value v, or both are above the limit
-pub record Capped (v n : ℕ) : Type 0 where
-  pub same : n ≤ 2147483647 → n ≡ v
-  pub over : 2147483647 < n → 2147483647 < v
+abbrev pub capped : ℕ → ℕ → Option ℕ
+capped v d = cond (nat_le (with_digit v d) 2147483647) (Some (with_digit v d)) None

@@ -1,5 +1,5 @@
 -- What stands between tokens.
-use Rattle.std.specs.Prelude.{◌≡◌, ℕ, ◌*◌, ◌<◌, ◌≤◌, Bool, true, false, ◌||◌, List, length, drop, slice_index}
+use Rattle.std.specs.Prelude.{◌≡◌, ℕ, ◌*◌, ◌<◌, ◌≤◌, Bool, true, false, ◌||◌, List, length, drop, slice_index, Option, MatchOption}
 use Rattle.lexis.specs.Bytes.{class_of}
 use Rattle.lexis.specs.declared.bytes.Class.{Class}
 use Rattle.lexis.specs.declared.bytes.Class.TheVariants.{Blank, LineEnd, Hash, Letter, Digit, Quote, Mark, Other}
@@ -29,9 +29,15 @@ is_gap (Mode.Fresh c) k = is_space k || ends_line k
 is_gap Mode.Inside k = is_space k
 is_gap Mode.Over k = false
 
+-- the column that a line's start has come to
+abbrev pub width : Mode → ℕ
+width (Mode.Fresh c) = c
+width Mode.Inside = 0
+width Mode.Over = 0
+
 -- a byte widens a line's start by at most eight columns
 abbrev pub Narrow : Spot → Type 0
-Narrow x = elim x.mode [ Mode.Fresh c ↦ c ≤ 8 * x.pos | Mode.Inside ↦ Unit {0} | Mode.Over ↦ Unit {0} ]
+Narrow x = width x.mode ≤ 8 * x.pos
 
 -- the same tokens are ahead of both spots, whatever levels are open
 abbrev pub Leads : List ℕ → Spot → Spot → Type 0
@@ -46,3 +52,7 @@ pub record Passes (s : List ℕ) (x y : Spot) : Type 0 where
   pub narrow : Narrow y
   pub on : x.pos < y.pos
   pub within : y.pos ≤ length s
+
+-- one step over what gives no token, or none where that stops
+abbrev pub Passed : List ℕ → Spot → Option Spot → Type 0
+Passed s x r = MatchOption r (Stops s x) (λ y. Passes s x y)

@@ -1,27 +1,24 @@
 // The value of an integer literal.
-ghost use Rattle.std.specs.Prelude.{◌≡◌};
-ghost use Rattle.lexis.specs.Numbers.{number_of, digits_value, zero_led};
-ghost use Rattle.lexer.specs.Capped.{Capped};
+ghost use Rattle.std.specs.Prelude.{◌≡◌, ◌≤◌};
+ghost use Rattle.lexis.specs.Numbers.{number_of, zero_led};
+ghost use Rattle.lexer.specs.Capped.{capped};
 
-const LIMIT: u64 = 2147483647;
+const LIMIT: u32 = 2147483647;
 
 fn zero_led(digits: &[u8]) -> bool
     ensures { result ≡ zero_led digits.now }
 {
-    digits.len() > 1 && digits[0] == b'0'
+    matches!(digits, [b'0', _, ..])
 }
 
-// The value of a run of digits, or some number above the limit if it is above that.
-fn capped(digits: &[u8]) -> u64
-    ensures { Capped (digits_value digits.now) result }
+// A number with one more digit, if it is at most 2147483647.
+fn with_digit(value: u32, d: u8) -> Option<u32>
+    ensures { result ≡ capped value d }
 {
-    let mut value: u64 = 0;
-    for d in digits {
-        if value <= LIMIT {
-            value = value * 10 + u64::from(d.saturating_sub(48));
-        }
-    }
-    value
+    let value = value
+        .checked_mul(10)?
+        .checked_add(u32::from(d.saturating_sub(b'0')))?;
+    if value <= LIMIT { Some(value) } else { None }
 }
 
 // The value of a run of digits, if it is at most 2147483647 and has no leading zero.
@@ -31,10 +28,10 @@ pub fn number_of(digits: &[u8]) -> Option<u32>
     if zero_led(digits) {
         return None;
     }
-    let value = capped(digits);
-    if value <= LIMIT {
-        Some(value as u32)
-    } else {
-        None
+    // A `for`, since `try_fold` does not promise that each of its steps began at the total so far, and the limit would not follow.
+    let mut value = 0;
+    for d in digits {
+        value = with_digit(value, *d)?;
     }
+    Some(value)
 }

@@ -10,12 +10,10 @@ use lexis::scans::Run;
 fn in_run(run: Run, b: u8) -> bool
     ensures { result ≡ in_run run b }
 {
-    match (run, class_of(b)) {
-        (Run::Word, Class::Letter | Class::Digit) => true,
-        (Run::Digits, Class::Digit) => true,
-        (Run::Comment, Class::LineEnd) => false,
-        (Run::Comment, _) => true,
-        _ => false,
+    match run {
+        Run::Word => matches!(class_of(b), Class::Letter | Class::Digit),
+        Run::Digits => matches!(class_of(b), Class::Digit),
+        Run::Comment => !matches!(class_of(b), Class::LineEnd),
     }
 }
 
@@ -23,9 +21,5 @@ pub fn run_len(s: &[u8], run: Run) -> usize
     ensures value { result ≡ prefix_len (in_run run) s.now }
     ensures within { result ≤ length s.now }
 {
-    let mut n = 0;
-    while n < s.len() && in_run(run, s[n]) {
-        n += 1;
-    }
-    n
+    s.iter().take_while(|b| in_run(run, **b)).count()
 }

@@ -26,10 +26,8 @@ fn text_step(state: Quoted, b: u8) -> Quoted
             32..=126 => longer(size),
             _ => Quoted::Bad,
         },
-        Quoted::Escaped(size) => match escape_of(b as char) {
-            Some(_) => longer(size),
-            None => Quoted::Bad,
-        },
+        Quoted::Escaped(size) if escape_of(b as char).is_some() => longer(size),
+        Quoted::Escaped(_) => Quoted::Bad,
         Quoted::Closed => Quoted::Closed,
         Quoted::Bad => Quoted::Bad,
     }
@@ -41,13 +39,12 @@ pub fn text_end(rest: &[u8]) -> Option<usize>
     ensures within { IfSome result (λ e. (1 ≤ e) × (e < length rest.now)) }
 {
     let mut state = Quoted::Plain(0);
-    let mut i = 1;
-    while i < rest.len() {
-        state = text_step(state, rest[i]);
+    for (i, b) in rest.iter().enumerate().skip(1) {
+        state = text_step(state, *b);
         match state {
             Quoted::Closed => return Some(i),
             Quoted::Bad => return None,
-            _ => i += 1,
+            Quoted::Plain(_) | Quoted::Escaped(_) => {}
         }
     }
     None

@@ -1,5 +1,5 @@
 // Keywords and operators.
-ghost use Rattle.std.specs.Prelude.{◌≡◌};
+ghost use Rattle.std.specs.Prelude.{◌≡◌, find, slice_index};
 ghost use Rattle.std.specs.Str.{bytes_eq};
 ghost use Rattle.lexis.specs.Words.{spelled, keyword_of, symbol_of};
 
@@ -91,42 +91,44 @@ fn is_spelled(k: Keyword, word: &[u8]) -> bool
     spelling(k) == word
 }
 
+fn first_spelled(keywords: &[Keyword], word: &[u8]) -> Option<Keyword>
+    ensures { result ≡ find (λ k. bytes_eq (spelled k) word.now) keywords.now }
+{
+    keywords.iter().copied().find(|k| is_spelled(*k, word))
+}
+
+#[tactic(auto, using(crate::proofs::Spelled::found))]
 pub fn keyword_of(word: &[u8]) -> Option<Keyword>
     ensures { result ≡ keyword_of word.now }
 {
-    for k in KEYWORDS {
-        if is_spelled(k, word) {
-            return Some(k);
-        }
-    }
-    None
+    first_spelled(&KEYWORDS, word)
 }
 
-// The longest operator that begins with `first`, where `second` is the byte after it (0 at the end).
-pub fn operator_of(first: u8, second: u8) -> Option<(Symbol, usize)>
-    ensures { result ≡ symbol_of first second }
+// The longest operator at the front of some bytes, with its size.
+pub fn operator_of(rest: &[u8]) -> Option<(Symbol, usize)>
+    ensures { result ≡ symbol_of (slice_index rest.now 0) (slice_index rest.now 1) }
 {
-    match (first, second) {
-        (b'/', b'/') => Some((Symbol::Divide, 2)),
-        (b'<', b'=') => Some((Symbol::AtMost, 2)),
-        (b'>', b'=') => Some((Symbol::AtLeast, 2)),
-        (b'=', b'=') => Some((Symbol::Equal, 2)),
-        (b'!', b'=') => Some((Symbol::Differ, 2)),
-        (b'-', b'>') => Some((Symbol::Arrow, 2)),
-        (b'+', _) => Some((Symbol::Plus, 1)),
-        (b'-', _) => Some((Symbol::Minus, 1)),
-        (b'*', _) => Some((Symbol::Star, 1)),
-        (b'%', _) => Some((Symbol::Percent, 1)),
-        (b'<', _) => Some((Symbol::Less, 1)),
-        (b'>', _) => Some((Symbol::Greater, 1)),
-        (b'=', _) => Some((Symbol::Assign, 1)),
-        (b'(', _) => Some((Symbol::LeftRound, 1)),
-        (b')', _) => Some((Symbol::RightRound, 1)),
-        (b'[', _) => Some((Symbol::LeftSquare, 1)),
-        (b']', _) => Some((Symbol::RightSquare, 1)),
-        (b',', _) => Some((Symbol::Comma, 1)),
-        (b':', _) => Some((Symbol::Colon, 1)),
-        (b'.', _) => Some((Symbol::Dot, 1)),
+    match rest {
+        [b'/', b'/', ..] => Some((Symbol::Divide, 2)),
+        [b'<', b'=', ..] => Some((Symbol::AtMost, 2)),
+        [b'>', b'=', ..] => Some((Symbol::AtLeast, 2)),
+        [b'=', b'=', ..] => Some((Symbol::Equal, 2)),
+        [b'!', b'=', ..] => Some((Symbol::Differ, 2)),
+        [b'-', b'>', ..] => Some((Symbol::Arrow, 2)),
+        [b'+', ..] => Some((Symbol::Plus, 1)),
+        [b'-', ..] => Some((Symbol::Minus, 1)),
+        [b'*', ..] => Some((Symbol::Star, 1)),
+        [b'%', ..] => Some((Symbol::Percent, 1)),
+        [b'<', ..] => Some((Symbol::Less, 1)),
+        [b'>', ..] => Some((Symbol::Greater, 1)),
+        [b'=', ..] => Some((Symbol::Assign, 1)),
+        [b'(', ..] => Some((Symbol::LeftRound, 1)),
+        [b')', ..] => Some((Symbol::RightRound, 1)),
+        [b'[', ..] => Some((Symbol::LeftSquare, 1)),
+        [b']', ..] => Some((Symbol::RightSquare, 1)),
+        [b',', ..] => Some((Symbol::Comma, 1)),
+        [b':', ..] => Some((Symbol::Colon, 1)),
+        [b'.', ..] => Some((Symbol::Dot, 1)),
         _ => None,
     }
 }

@@ -5,21 +5,16 @@ ghost use Rattle.lexis.specs.Faults.{fault_number};
 // A byte that begins no token, a number, a string, or an indentation.
 #[derive(Clone, Copy, PartialEq, Eq, Debug)]
 pub enum Fault {
-    Byte,
-    Number,
-    Text,
-    Indentation,
+    Byte = 2,
+    Number = 3,
+    Text = 4,
+    Indentation = 5,
 }
 
 impl Fault {
     pub fn number(self) -> u8
         ensures { result ≡ fault_number self }
     {
-        match self {
-            Fault::Byte => 2,
-            Fault::Number => 3,
-            Fault::Text => 4,
-            Fault::Indentation => 5,
-        }
+        self as u8
     }
 }

@@ -2,6 +2,7 @@
 use crate::tokens::Token;
 
 // What a run of bytes belongs to.
+// It is data, since the rules of tokens speak of each run: a closure would need clauses to say which of the three tests it is.
 #[derive(Clone, Copy)]
 pub enum Run {
     Word,
@@ -10,6 +11,7 @@ pub enum Run {
 }
 
 // Where a reader of a string is: after a number of bytes of its value, past a backslash, past the closing quote, or in no string.
+// `Bad` is a state that the automaton stays in, as `Closed` is: a `Result` around the rest would only be longer.
 #[derive(Clone, Copy)]
 pub enum Quoted {
     Plain(u8),

@@ -12,7 +12,7 @@ fn read_next(lexer: &mut Lexer<'_, '_>) -> Option<Next>
     ensures next { with_next (bytes_of lexer.old) result (feed_of (left lexer.new)) ≡ feed_of (left lexer.old) }
     ensures bytes { bytes_of lexer.new ≡ bytes_of lexer.old }
 {
-    lexer.next_token().map(Next::from)
+    lexer.next().map(Next::from)
 }
 
 impl<'a, 's> Feed<'a, 's> {

@@ -1,5 +1,5 @@
 -- The list that a stack stands for, its top first.
-use Rattle.std.specs.Prelude.{ℕ, min, List, [], ◌∷◌, reverse, length, take, Some, None, Option}
+use Rattle.std.specs.Prelude.{ℕ, List, [], ◌∷◌, reverse, length, take, Some, None, Option}
 use Rattle.stack.specs.declared.Stack.{Stack}
 
 module _ {T : Type 0} where
@@ -9,10 +9,6 @@ module _ {T : Type 0} where
   -- how many items it can hold
   abbrev pub room : Stack T → ℕ
   room s = length s.slots.now
-
-  -- how many slots hold an item, whatever the fields say
-  abbrev pub filled : Stack T → ℕ
-  filled s = min s.len (length s.slots.now)
 
   abbrev pub top_of : List T → Option T
   top_of [] = None

@@ -1,32 +1,34 @@
 -- One step over the bytes of a string.
-use Rattle.std.proofs.Common.{◌≡◌, ℕ, ◌+◌, ◌<◌, ◌≤◌, Bool, true, false, cond, List, [], ◌∷◌, ◌++◌, length, get_or, drop, ap, ◌∙◌, arith}
-use Rattle.std.proofs.lemmas.List.{at_drop_more, at_drop_all}
+use Rattle.std.proofs.Common.{◌≡◌, ℕ, ◌-◌, ◌<◌, true, cond, List, [], ◌∷◌, ◌++◌, length, get_or, take, drop, sym, refl, ap, ◌∙◌, arith}
 use Rattle.std.proofs.lemmas.Bool.{eq-eqb, ne_eqb}
-use Rattle.lexis.specs.Texts.{value_from, written, escapes, unescaped}
+use Rattle.std.proofs.lemmas.List.{take_rest}
+use Rattle.lexis.specs.Texts.{value_from, unescaped, string_value}
 
-pub value_none : (e : Bool) (w : List ℕ) (i : ℕ) → length w ≤ i → value_from e (drop i w) ≡ []
+pub done : (w : List ℕ) → length w < 1 → string_value w ≡ []
 unfolding value_from
-value_none e w i h = at_drop_all (value_from e) w i h
+done [] h = refl
+done (b ∷ w) h = absurd (omega arith)
 
-value_step : (e : Bool) (w : List ℕ) (i : ℕ) → i < length w → value_from e (drop i w) ≡ written e (get_or w i 0) ++ value_from (escapes e (get_or w i 0)) (drop (i + 1) w)
+pub plain : (w : List ℕ) → 0 < length w → (get_or w 0 0 ≡ 92 → ⊥) → string_value w ≡ get_or w 0 0 ∷ string_value (take (length w - 1) (drop 1 w))
 unfolding value_from
-value_step e w i h = at_drop_more (value_from e) w i 0 h
+plain [] h n = absurd (omega arith)
+plain (b ∷ w) h n =
+    ap (λ t. cond t [] (b ∷ []) ++ value_from t w) (ne_eqb b 92 n) ∙ ap (λ v. b ∷ string_value v) (sym (take_rest (b ∷ w) 1))
 
-module _ (w : List ℕ) (i : ℕ) (h : i < length w) where
-  pub plain_step : (get_or w i 0 ≡ 92 → ⊥) → value_from false (drop i w) ≡ get_or w i 0 ∷ value_from false (drop (i + 1) w)
-  plain_step n =
-      let b = get_or w i 0 in
-      value_step false w i h ∙ ap (λ t. cond t [] (b ∷ []) ++ value_from t (drop (i + 1) w)) (ne_eqb b 92 n)
+opened : (b : ℕ) (w : List ℕ) → b ≡ 92 → string_value (b ∷ w) ≡ value_from true w
+unfolding value_from
+opened b w e = ap (λ t. cond t [] (b ∷ []) ++ value_from t w) (eq-eqb b 92 e)
 
-  opening : get_or w i 0 ≡ 92 → value_from false (drop i w) ≡ value_from true (drop (i + 1) w)
-  opening e =
-      let b = get_or w i 0 in
-      value_step false w i h ∙ ap (λ t. cond t [] (b ∷ []) ++ value_from t (drop (i + 1) w)) (eq-eqb b 92 e)
+pub escaped : (w : List ℕ) → 1 < length w → get_or w 0 0 ≡ 92 → string_value w ≡ unescaped (get_or w 1 0) ∷ string_value (take (length w - 2) (drop 2 w))
+unfolding value_from
+escaped [] h e = absurd (omega arith)
+escaped (b ∷ []) h e = absurd (omega arith)
+escaped (b ∷ c ∷ w) h e = opened b (c ∷ w) e ∙ ap (λ v. unescaped c ∷ string_value v) (sym (take_rest (b ∷ c ∷ w) 2))
 
-  pub escape_step : get_or w i 0 ≡ 92 → i + 1 < length w → value_from false (drop i w) ≡ unescaped (get_or w (i + 1) 0) ∷ value_from false (drop (i + 2) w)
-  escape_step e k =
-      let two : i + 1 + 1 ≡ i + 2 = omega arith in
-      opening e ∙ value_step true w (i + 1) k ∙ ap (λ j. unescaped (get_or w (i + 1) 0) ∷ value_from false (drop j w)) two
+pub lone : (w : List ℕ) → length w < 2 → get_or w 0 0 ≡ 92 → string_value w ≡ []
+unfolding value_from
+lone [] h e = refl
+lone (b ∷ []) h e = opened b [] e
+lone (b ∷ c ∷ w) h e = absurd (omega arith)
 
-  pub lone_step : get_or w i 0 ≡ 92 → length w ≤ i + 1 → value_from false (drop i w) ≡ []
-  lone_step e k = opening e ∙ value_none true w (i + 1) k
+pub ruleset steps = (done, plain, escaped, lone)

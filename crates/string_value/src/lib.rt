@@ -2,8 +2,9 @@
 #![tactic(auto)]
 
 ghost use Rattle.std.specs.Prelude.{◌≡◌};
+ghost use Rattle.std.specs.Iterator.{YieldsFirst, item_count};
 ghost use Rattle.lexis.specs.Texts.{escape_of, unescaped, string_value};
-ghost use Rattle.string_value.specs.Left.{value_left, Takes};
+ghost use Rattle.string_value.specs.Left.{value_left};
 
 // The byte that a backslash and `c` stand for.
 pub fn escape_of(c: char) -> Option<u8>
@@ -21,17 +22,13 @@ pub fn escape_of(c: char) -> Option<u8>
 fn unescape(b: u8) -> u8
     ensures { result ≡ unescaped b }
 {
-    match escape_of(b as char) {
-        Some(v) => v,
-        None => b,
-    }
+    escape_of(b as char).unwrap_or(b)
 }
 
 // A string's value, byte by byte.
 #[derive(Clone, Copy)]
 pub struct StringValue<'a> {
     raw: &'a [u8],
-    pos: usize,
 }
 
 impl<'a> StringValue<'a> {
@@ -39,27 +36,30 @@ impl<'a> StringValue<'a> {
     pub fn new(raw: &'a [u8]) -> StringValue<'a>
         ensures { value_left result ≡ string_value raw.now }
     {
-        StringValue { raw, pos: 0 }
+        StringValue { raw }
     }
+}
 
-    // The next byte of the value, or nothing at its end.
-    pub fn next_byte(&mut self) -> Option<u8>
-        ensures { Takes (value_left self.old) result (value_left self.new) }
-    {
-        let raw = self.raw;
-        let at = self.pos;
-        if at >= raw.len() {
-            return None;
+impl Iterator for StringValue<'_> {
+    type Item = u8;
+
+    ghost next_gives = { YieldsFirst value_left };
+
+    ghost remaining = { item_count value_left };
+
+    // The next byte of the value, or nothing at its end. A backslash with no byte after it gives nothing.
+    #[tactic(auto, using(crate::proofs::Values::steps))]
+    fn next(&mut self) -> Option<u8> {
+        match self.raw {
+            [] | [b'\\'] => None,
+            [b'\\', c, rest @ ..] => {
+                self.raw = rest;
+                Some(unescape(*c))
+            }
+            [b, rest @ ..] => {
+                self.raw = rest;
+                Some(*b)
+            }
         }
-        if raw[at] != b'\\' {
-            self.pos = at + 1;
-            return Some(raw[at]);
-        }
-        if at + 1 >= raw.len() {
-            self.pos = raw.len();
-            return None;
-        }
-        self.pos = at + 2;
-        Some(unescape(raw[at + 1]))
     }
 }
