@@ -28,7 +28,7 @@ pub fn number_of(digits: &[u8]) -> Option<u32>
     if zero_led(digits) {
         return None;
     }
-    // A `for`, since `try_fold` does not promise that each of its steps began at the total so far, and the limit would not follow.
+    // A `for` with `?`, since the search for a proof gives up where `try_fold` does the same.
     let mut value = 0;
     for d in digits {
         value = with_digit(value, *d)?;
