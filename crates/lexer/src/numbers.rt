@@ -28,10 +28,5 @@ pub fn number_of(digits: &[u8]) -> Option<u32>
     if zero_led(digits) {
         return None;
     }
-    // A `for` with `?`, since the search for a proof gives up where `try_fold` does the same.
-    let mut value = 0;
-    for d in digits {
-        value = with_digit(value, *d)?;
-    }
-    Some(value)
+    digits.iter().try_fold(0, |value, d| with_digit(value, *d))
 }
