@@ -8,6 +8,7 @@ ghost use Rattle.lexis.specs.declared.bytes.Class.TheVariants.{Blank};
 
 use lexis::bytes::Class;
 
+// Written out, for a table in constant memory: the value of a `static` calls no function.
 static CLASSES: [Class; 256] = [
     Class::Other,
     Class::Other,

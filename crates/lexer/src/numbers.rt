@@ -28,10 +28,5 @@ pub fn number_of(digits: &[u8]) -> Option<u32>
     if zero_led(digits) {
         return None;
     }
-    // A `for`, since `try_fold` does not promise that each of its steps began at the total so far, and the limit would not follow.
-    let mut value = 0;
-    for d in digits {
-        value = with_digit(value, *d)?;
-    }
-    Some(value)
+    digits.iter().try_fold(0, |value, d| with_digit(value, *d))
 }
