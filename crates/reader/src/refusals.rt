@@ -1,6 +1,7 @@
 // Why reading comes to no routine.
 use crate::answers::Refusal;
 
+// An `Option` of a refusal would say less: it is an error in both cases.
 #[derive(Clone, Copy)]
 pub enum Stop {
     // a token is refused
