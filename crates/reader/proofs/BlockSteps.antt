@@ -7,7 +7,7 @@ use Rattle.arena.specs.declared.arenas.Arena.{Arena}
 use Rattle.arena.specs.declared.nodes.Node.TheVariants.{MoreStatements, NoStatements}
 use Rattle.grammar.specs.Tree as tree
 use Rattle.grammar.specs.Tree.{Expr, Form, Stmt, Stmts, Token, at}
-use Rattle.grammar.specs.Reader.{Body, Offer, State, add, arms, base, block_of, decls, eachs, either, ends, have, locals, loops, main, on, other, pick, start, stmts, vars, want, when}
+use Rattle.grammar.specs.Reader.{Body, Offer, State, add, arms, base, block_of, decls, eachs, either, ends, have, locals, loops, main, on, other, pick, start, vars, want, when}
 use Rattle.grammar.specs.Limits.{Reading, body_depth, limited, proceeds}
 use Rattle.grammar.specs.Verdict.{judged}
 use Rattle.reader.specs.Feeds.{coming, feed_source}
@@ -15,8 +15,7 @@ use Rattle.reader.specs.Kinds.{mark_of}
 use Rattle.reader.specs.Levels.{IndentedTold}
 use Rattle.reader.specs.Places.{BodyAt, Inward, Nest, NestAt, Sequel, SettledAt, Test, TestAt, Unclaimed, a_loop, an_arm, an_each, an_else, in_for, in_if, in_while, nest_body, nest_end, nest_of, test_hole}
 use Rattle.reader.specs.Statements.{BlockTold, Filled, GuardedTold, StatementTold, StatementsTold, WordedTold}
-use Rattle.reader.specs.Stops.{stop_of}
-use Rattle.reader.specs.Taking.{Another, Bars}
+use Rattle.reader.specs.Taking.{Another}
 use Rattle.reader.specs.Told.{Spot, Told, having, read_expr}
 use Rattle.reader.specs.declared.depths.Depth.{Depth}
 use Rattle.reader.specs.declared.feeds.Feed.{Feed}
@@ -24,7 +23,6 @@ use Rattle.reader.specs.declared.forms.Read.{Read}
 use Rattle.reader.specs.declared.kinds.Mark.{Mark}
 use Rattle.reader.specs.declared.refusals.Stop.{Stop}
 use Rattle.reader.proofs.Leading.{Along, along, along_as, along_stored, got, led, stepped}
-use Rattle.reader.proofs.Refusing.{refused_here}
 use Rattle.reader.proofs.Steps.{Passed, kept_long, kept_phrase, kept_still, passed_long}
 use Rattle.reader.proofs.Storing.{Stored, kept_then, stored}
 
@@ -294,29 +292,3 @@ of_settled x = record { body = x.body; deep = x.deep; unclaimed = x.unclaimed }
 pub settled_told : {d : ℕ} {f g : Feed} {n m : Arena} (r : Result ℕ Stop) → WordedTold d f n g m r → StatementTold d f n g m r
 settled_told (Ok i) t = record { kept = t.kept; leads = record { stored = t.leads.stored; spare = t.leads.spare; goes = λ x. t.leads.goes (of_settled x) } }
 settled_told (Err y) t = record { kept = t.kept; leads = λ x. t.leads (of_settled x) }
-
--- a mark that is none of the words that statements begin with
-pub record Wordless (m : Mark) : Type 0 where
-  pub no_pass : m ≡ Mark.Pass → ⊥
-  pub no_return : m ≡ Mark.Return → ⊥
-  pub no_if : m ≡ Mark.If → ⊥
-  pub no_while : m ≡ Mark.While → ⊥
-  pub no_for : m ≡ Mark.For → ⊥
-
-unstated : (m : Mark) → Wordless m → (b : Body) (p : ℕ) → pick (stmts b) (at (tree.mark (mark_of m)) p) ≡ none
-unstated Mark.Pass w b p = absurd (w.no_pass refl)
-unstated Mark.Return w b p = absurd (w.no_return refl)
-unstated Mark.If w b p = absurd (w.no_if refl)
-unstated Mark.While w b p = absurd (w.no_while refl)
-unstated Mark.For w b p = absurd (w.no_for refl)
-unstated _ w b p = refl
-
-pub no_word : {d : ℕ} (m : Mark) (q : ℕ) (rest ts : List Token) (y : Stop) → Wordless m → ts ≡ at (tree.mark (mark_of m)) q ∷ rest → Bars (at (tree.mark (mark_of m)) q) y
-    → (x : BodyAt d ts) → judged (limited 64 ts (start x.body)) ≡ stop_of y
-no_word m q rest ts y w is bars x =
-    let t = at (tree.mark (mark_of m)) q in
-    let free = subst (Unclaimed x.body) is x.unclaimed in
-    refused_here t rest ts (start x.body) y is
-    (ap (λ z. either z (either (pick (decls x.body) t) (either (pick (ends x.body) t) none))) (unstated m w x.body q)
-    ∙ ap (λ z. either z (either (pick (ends x.body) t) none)) free.0 ∙ ap (λ z. either z none) free.1)
-    bars

@@ -1,5 +1,5 @@
 -- From the tokens of a source to the verdict on it.
-use Rattle.std.proofs.Common.{◌≡◌, ℕ, ◌≤◌, true, false, cond, ltb, List, [], length, is_err, Ok, Err, Result, sym, refl, ap, ◌∙◌, arith}
+use Rattle.std.proofs.Common.{◌≡◌, ℕ, ◌≤◌, true, false, cond, ltb, List, length, is_err, Ok, Err, Result, sym, refl, ap, ◌∙◌, arith}
 use Rattle.std.proofs.lemmas.List.{length-map}
 use Rattle.arena.specs.declared.nodes.Node.{Node}
 use Rattle.grammar.specs.Tree.{Token}
@@ -8,7 +8,7 @@ use Rattle.lexis.proofs.Counting.{few}
 use Rattle.lexis.specs.Lines.{tokens}
 use Rattle.syntax.proofs.Exactly.{reads_exactly}
 use Rattle.syntax.specs.Reading.{reading, source_tokens, token_of}
-use Rattle.reader.specs.Answers.{AnswerHolds, NothingLeft, answer_verdict}
+use Rattle.reader.specs.Answers.{AnswerHolds, answer_verdict}
 use Rattle.reader.specs.declared.answers.Refusal.{Refusal}
 use Rattle.reader.specs.declared.answers.Routine.{Routine}
 
@@ -37,11 +37,3 @@ answer_holds s ns (Err y) e = (reads_exactly.refuses s _ _).0 (sym e)
 pub refusal_same : (s : List ℕ) (ns ms : List Node) (r : Result Routine Refusal) → is_err r ≡ true → answer_verdict s ns r ≡ answer_verdict s ms r
 refusal_same s ns ms (Ok a) e = let z : ◌≡◌ {A = ℕ} 0 1 = cc in absurd (omega arith)
 refusal_same s ns ms (Err y) e = refl
-
-pub emptied_left : (ns : List Node) (r : Result Routine Refusal) → ns ≡ [] → NothingLeft ns r
-emptied_left ns (Ok a) e = tt
-emptied_left ns (Err y) e = e
-
-pub routine_left : (ns : List Node) (r : Result Routine Refusal) → is_err r ≡ false → NothingLeft ns r
-routine_left ns (Ok a) e = tt
-routine_left ns (Err y) e = let z : ◌≡◌ {A = ℕ} 0 1 = cc in absurd (omega arith)

@@ -38,7 +38,7 @@ pub enum Mark {
     Unused,
 }
 
-// A constant that is no string: a string's literal needs the place too, which a kind does not have.
+// A constant that is no string: of a string a token tells the length alone, so a `Literal` would be too much here.
 #[derive(Clone, Copy)]
 pub enum Constant {
     None,

@@ -19,7 +19,7 @@ pub enum Reason {
 }
 
 impl Reason {
-    // The number by which a verdict tells the reason.
+    // The number by which a verdict tells the reason. It is no discriminant, since that of a fault is the fault's own.
     pub fn number(self) -> u8
         ensures { result ≡ reason_number self }
     {

@@ -1,6 +1,7 @@
-// Why reading comes to no routine: an enum, since an error `None` would not say what it means.
+// Why reading comes to no routine.
 use crate::answers::Refusal;
 
+// An `Option` of a refusal would say less: it is an error in both cases, and `None` would not say which.
 #[derive(Clone, Copy)]
 pub enum Stop {
     // a token is refused

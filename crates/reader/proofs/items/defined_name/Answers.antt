@@ -1,7 +1,6 @@
-use Rattle.std.proofs.Common.{◌≡◌, ℕ, ◌⊎◌, Bool, true, false, List, [], ◌∷◌, slice_get, Some, sym, subst, ◌∙◌, refl, ap, inl, inr}
+use Rattle.std.proofs.Common.{◌≡◌, ℕ, Bool, true, false, List, [], ◌∷◌, slice_get, Some, sym, subst, ◌∙◌, refl, ap}
 use Rattle.std.specs.Bool.{then_some}
 use mathlib.Core.Option.{none}
-use Rattle.arena.specs.declared.nodes.PrefixOperator.{PrefixOperator}
 use Rattle.arena.proofs.Growth.{trees_stand}
 use Rattle.arena.specs.Order.{ordered}
 use Rattle.arena.specs.Tables.{arena_nodes}
@@ -19,7 +18,6 @@ use Rattle.reader.specs.Taking.{Another, PassTold}
 use Rattle.reader.specs.Told.{NamedAt, NamedBy}
 use Rattle.reader.specs.declared.forms.Form.{Form}
 use Rattle.reader.specs.declared.forms.Read.{Read}
-use Rattle.reader.specs.declared.forms.Rank.{Rank}
 use Rattle.reader.specs.declared.kinds.Mark.{Mark}
 use Rattle.reader.proofs.items.defined_name.Goals as goal
 
@@ -44,24 +42,6 @@ no_colon fr p (tree.prefix q) t ts h = refl
 uncoloned : (b : Body) (p : ℕ) (f : tree.Form) (ts : List Token) → Another Mark.Colon ts → Unsaid b p f ts
 uncoloned b p f [] h = tt
 uncoloned b p f (t ∷ ts) h = undefined b p f t (λ fr. no_colon fr p f t ts h)
-
--- the expression is no name
-abbrev Unnamed : Form → Type 0
-Unnamed f = (f ≡ Form.Member) ⊎ ((f ≡ Form.Indexed) ⊎ ((f ≡ Form.Closed) ⊎ (((r : Rank) × (f ≡ Form.Binary r)) ⊎ ((o : PrefixOperator) × (f ≡ Form.Prefix o)))))
-
-no_name : (e : Expr) (fr : Frame) (p : ℕ) (f : Form) (t : Token) → Unnamed f → pick (declared fr p (form_of f e)) t ≡ none
-no_name e fr p f t (inl h) = ap (λ x. pick (declared fr p (form_of x e)) t) h
-no_name e fr p f t (inr (inl h)) = ap (λ x. pick (declared fr p (form_of x e)) t) h
-no_name e fr p f t (inr (inr (inl h))) = ap (λ x. pick (declared fr p (form_of x e)) t) h
-no_name e fr p f t (inr (inr (inr (inl h)))) = ap (λ x. pick (declared fr p (form_of x e)) t) h.1
-no_name e fr p f t (inr (inr (inr (inr h)))) = ap (λ x. pick (declared fr p (form_of x e)) t) h.1
-
-unnamed : (e : Expr) (b : Body) (p : ℕ) (f : Form) (ts : List Token) → Unnamed f → Unsaid b p (form_of f e) ts
-unnamed e b p f [] h = tt
-unnamed e b p f (t ∷ ts) h = undefined b p (form_of f e) t (λ fr. no_name e fr p f t h)
-
-pub returns-in-Member : goal.returns-in-Member
-returns-in-Member c = let r = c.args.read in record { told = (refl, (λ e b. unnamed e b r.place r.form (coming c.args.feed.now) c.in-Member.is)); source = refl }
 
 -- the name's node stands for a variable at its place
 named_here : (ns : List Node) (r : Read) (name : Stretch) → ordered 0 ns ≡ true → r.form ≡ Form.Named → NamedBy ns r → slice_get ns r.node ≡ Some (Node.Variable name)

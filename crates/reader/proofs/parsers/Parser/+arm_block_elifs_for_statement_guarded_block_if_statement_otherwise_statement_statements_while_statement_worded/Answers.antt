@@ -7,18 +7,17 @@ use Rattle.grammar.specs.Limits.{limited}
 use Rattle.grammar.specs.Reader.{State, add, more, other, seq, start}
 use Rattle.grammar.specs.Tree.{at}
 use Rattle.reader.proofs.ArmSteps.{arm_on, arms_on, around, block_on, elif_on, else_block, for_begun, for_test, from_arm, from_test, if_begun, if_test, if_ways, no_else, past_arms, while_begun, while_test, word_passed}
-use Rattle.reader.proofs.BlockSteps.{Begun, block_begun, block_first, block_inward, block_opened, block_told, guarded, nested, no_word, one_more, sequel_ends, sequel_next, settled_told, still_there, tested_colon}
+use Rattle.reader.proofs.BlockSteps.{Begun, block_begun, block_first, block_inward, block_opened, block_told, guarded, nested, one_more, sequel_ends, sequel_next, settled_told, still_there, tested_colon}
 use Rattle.reader.proofs.Leading.{along, led, led_on, stepped, stopped, stopped_behind, stopped_on, told_on, told_stored}
 use Rattle.reader.proofs.ListSteps.{stored_phrase}
 use Rattle.reader.proofs.Steps.{Passed, both_before, faced, kept_long, kept_phrase, kept_still, passed_long, room_left}
 use Rattle.reader.proofs.Storing.{kept_all, kept_taken, kept_then, stays, unmade}
 use Rattle.reader.specs.Feeds.{coming, feed_source}
 use Rattle.reader.specs.Keeping.{Kept}
-use Rattle.reader.specs.Kinds.{kind_model, mark_of}
+use Rattle.reader.specs.Kinds.{mark_of}
 use Rattle.reader.specs.Places.{ArmsAt, AroundAt, NestAt, Sequel, TestAt, nest_body, nest_end}
-use Rattle.reader.specs.Taking.{Another, Bars}
+use Rattle.reader.specs.Taking.{Another}
 use Rattle.reader.specs.Told.{read_expr}
-use Rattle.reader.specs.declared.kinds.Kind.{Kind}
 use Rattle.reader.specs.declared.kinds.Mark.{Mark}
 use Rattle.std.proofs.lemmas.Bool.{lt-ltb}
 use Rattle.grammar.specs.Tree as tree
@@ -434,11 +433,3 @@ statements-returns t c =
     let a = along inv.2 (stepped n (λ (x : Sequel c.args.close c.args.depth.levels). start (x.body ss)) (λ x. x.end ss) p (λ x. sequel_ends x ss inv.1 yes.told.0 (coming g))) in
     let cost = a.kept.cost in
     record { kept = a.kept; leads = record { stored = inv.0; spare = omega (arith, cost); goes = a.goes } }
-
-pub worded-returns-in_default : goal.worded-returns-in_default
-worded-returns-in_default t c =
-    let f = c.args.self.now.feed in
-    let q = c.args.next.place in
-    let face = faced (feed_source f) c.args.next (coming f) (Kind.Mark c.args.mark) c.requires.facing c.requires.kind in
-    let bars = subst (λ k. Bars (at (kind_model (feed_source f) q k) q) c.stop_at.result) c.requires.kind (c.stop_at.ensures (feed_source f)) in
-    record { kept = kept_all f c.args.self.now.arena; leads = no_word c.args.mark q _ (coming f) c.stop_at.result (record { no_pass = c.in_default.not-Pass; no_return = c.in_default.not-Return; no_if = c.in_default.not-If; no_while = c.in_default.not-While; no_for = c.in_default.not-For }) face bars }
