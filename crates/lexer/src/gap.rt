@@ -1,8 +1,7 @@
 // What stands between tokens and gives none: blanks, comments and lines with nothing else.
-ghost use Rattle.std.specs.Prelude.{◌≡◌, ℕ, ◌+◌, ◌*◌, ◌≤◌};
+ghost use Rattle.std.specs.Prelude.{◌≡◌, ◌+◌, ◌≤◌};
 ghost use Rattle.lexis.specs.Lines.{widened};
 ghost use Rattle.lexer.specs.Gaps.{Narrow, Leads, Stops, Passed};
-ghost use Rattle.lexis.specs.declared.lines.Mode.{Mode as Stage};
 
 use crate::runs::run_len;
 use crate::source::Source;

@@ -1,5 +1,5 @@
 // The value of an integer literal.
-ghost use Rattle.std.specs.Prelude.{◌≡◌, ◌≤◌};
+ghost use Rattle.std.specs.Prelude.{◌≡◌};
 ghost use Rattle.lexis.specs.Numbers.{number_of, zero_led};
 ghost use Rattle.lexer.specs.Capped.{capped};
 

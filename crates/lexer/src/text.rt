@@ -1,5 +1,5 @@
 // String literals.
-ghost use Rattle.std.specs.Prelude.{◌≡◌, ◌<◌, ◌≤◌, true, length, drop, IfSome};
+ghost use Rattle.std.specs.Prelude.{◌≡◌, ◌<◌, ◌≤◌, length, drop, IfSome};
 ghost use Rattle.lexis.specs.Texts.{longer_by, text_step, text_end};
 ghost use Rattle.lexis.specs.declared.scans.Quoted.{Quoted as State};
 

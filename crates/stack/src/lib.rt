@@ -1,7 +1,7 @@
 // A stack over slots that the caller lends. It stands for a list, its top first.
 #![tactic(auto)]
 
-ghost use Rattle.std.specs.Prelude.{◌≡◌, ℕ, ◌≤◌, List, [], ◌∷◌, ◌++◌, reverse, length, if◌then◌else◌, nat_lt, is_ok};
+ghost use Rattle.std.specs.Prelude.{◌≡◌, ◌≤◌, [], ◌∷◌, ◌++◌, reverse, length, if◌then◌else◌, nat_lt, is_ok};
 ghost use Rattle.std.specs.Option.{option_to_list};
 
 // No slot is left.
