@@ -6,11 +6,6 @@ use Rattle.reader.proofs.ListSteps.{stored_phrase}
 use Rattle.reader.proofs.Storing.{stays}
 use Rattle.reader.proofs.bodies.empty_body.Goals as goal
 
-pub store-statements-requires : goal.store-statements-requires
-store-statements-requires c =
-    let one = ap length c.store-declarations.ensures.nodes ∙ length-append (arena_nodes c.args.arena.now) (Node.NoDeclarations ∷ []) in
-    record { room = omega (arith, one, c.requires, c.store-declarations.ensures.limit); placed = refl }
-
 pub returns : goal.returns
 returns c =
     let n = c.args.arena.now in

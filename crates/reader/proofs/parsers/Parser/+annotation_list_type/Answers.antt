@@ -55,16 +55,6 @@ annotation-returns-in-Text t c =
       );
     }
 
-pub annotation-returns-in-Constant : goal.annotation-returns-in-Constant
-annotation-returns-in-Constant t c =
-    let f = c.args.self.now.feed in
-    let src = feed_source f in
-    let n = c.in-Some.next in
-    record {
-      kept = kept_all f c.args.self.now.arena;
-      tells = λ x. refused_here (next_token src n) (drop 1 (coming f)) (coming f) (typing x.slot) c.stop_at.result c.in-Some.ensures (no_type src n.place x.slot n.kind c.in-Constant.is) (c.stop_at.ensures src);
-    }
-
 -- past the bracket, with one level more
 inner : (src : List ℕ) (n : Next) (d : ℕ) (ts us : List Token) → ts ≡ next_token src n ∷ drop 1 ts → n.kind ≡ LeftSquare → us ≡ drop 1 ts → d < 64 → (x : SlotAt d) → limited 64 ts (typing x.slot) ≡ limited 64 us (typing (of_item n.place x.slot))
 inner src n d ts us e k f l x =

@@ -33,15 +33,6 @@ arm-returns-in_err-condition t c =
     let bad = c.in_err-condition.ensures in
     stopped c.from_residual.result _ c.from_residual.ensures.1 bad.kept (λ x. bad.leads (if_test aa c.args.place x))
 
-pub arm-store-requires : goal.arm-store-requires
-arm-store-requires t c =
-    let told = c.in_ok-condition.ensures in
-    let more = kept_long told.kept in
-    record {
-      room = room_left told.kept c.args.self.now.room (omega (arith, told.leads.spare));
-      placed = all_before (omega (arith, more, c.requires.stored)) told.leads.stored.0 told.leads.stored.1;
-    }
-
 pub arm-returns : goal.arm-returns
 arm-returns t c =
     let f = c.args.self.now.feed in
@@ -58,29 +49,6 @@ arm-returns t c =
     (λ new x.
     ap (λ (q : Phrase). limited 64 (coming g) (more (tree.arm q.arms p (phrase src (arena_nodes m) a.condition).expr (phrase src (arena_nodes m) a.body).stmts) x.body)) (sym (kept_phrase src c.args.before told.kept c.requires.stored))
     ∙ ap (λ (q : Phrase). limited 64 (coming g) (more q.arms x.body)) (sym new))
-
-pub elifs-returns-in_err-arms : goal.elifs-returns-in_err-arms
-elifs-returns-in_err-arms t c =
-    let g = c.loop-place.self.feed in
-    let h = c.take_if.new.self in
-    let m = c.loop-place.self.arena in
-    let before = c.loop-place.arms in
-    let word : Passed (at (tree.mark tree.elif) c.in-Some.place) g h = record { first = c.in-Some.ensures.told; source = c.in-Some.ensures.source } in
-    let r = c.from_residual.result in
-    let e = c.from_residual.ensures.1 in
-    record {
-      told = stopped_on r e (λ x. x) (λ s (x : AroundAt c.args.depth.levels). from_arm h m before c.in-Some.place s x) (elif_on before c.loop-place.invariant.1 word) c.in_err-arms.ensures;
-      over = unmade _ _ r e;
-    }
-
-pub elifs-loop-place-preserved : goal.elifs-loop-place-preserved
-elifs-loop-place-preserved t c =
-    let g = c.loop-place.self.feed in
-    let h = c.take_if.new.self in
-    let before = c.loop-place.arms in
-    let word : Passed (at (tree.mark tree.elif) c.in-Some.place) g h = record { first = c.in-Some.ensures.told; source = c.in-Some.ensures.source } in
-    let told = c.in_ok-arms.ensures in
-    (told.leads.stored, arm_on before c.in-Some.place c.in_ok-arms.arms (λ (x : AroundAt c.args.depth.levels). x) (elif_on before c.loop-place.invariant.1 word) told)
 
 pub for_statement-returns-in_err-condition : goal.for_statement-returns-in_err-condition
 for_statement-returns-in_err-condition t c =
@@ -117,29 +85,6 @@ for_statement-returns t c =
     c.store.ensures.index c.store.ensures.nodes c.store.ensures.limit (omega (arith, begun.kept.cost, told.leads.spare))
     (λ new x. ap (λ (q : Phrase). limited 64 (coming h) (start (add q.stmt x.body))) (sym new))
 
-pub if_statement-store-none-requires : goal.if_statement-store-none-requires
-if_statement-store-none-requires t c =
-    let f = c.args.self.now.feed in
-    let g = c.advance.new.self in
-    let n = c.args.self.now.arena in
-    let p = c.args.next.place in
-    let word : Passed (at (tree.mark tree.if) p) f g = word_passed Mark.If c.args.next c.requires.facing c.requires.kind c.advance.ensures.coming c.advance.ensures.source in
-    let long = passed_long word in
-    let one = ap length c.store-nothing.ensures.nodes ∙ length-append (arena_nodes n) (Node.NoStatements ∷ []) in
-    record { room = omega (arith, long, one, c.store-nothing.ensures.limit, c.args.self.now.room); placed = refl }
-
-pub if_statement-arm-requires : goal.if_statement-arm-requires
-if_statement-arm-requires t c =
-    let f = c.args.self.now.feed in
-    let g = c.advance.new.self in
-    let n = c.args.self.now.arena in
-    let p = c.args.next.place in
-    let word : Passed (at (tree.mark tree.if) p) f g = word_passed Mark.If c.args.next c.requires.facing c.requires.kind c.advance.ensures.coming c.advance.ensures.source in
-    let none = c.store-none.result in
-    let begun = if_begun c.args.depth.levels n c.store-nothing.new.arena c.store-none.new.arena word c.store-nothing.ensures.nodes c.store-nothing.ensures.limit c.store-none.ensures.index c.store-none.ensures.nodes c.store-none.ensures.limit in
-    let one = ap length c.store-none.ensures.nodes ∙ length-append (arena_nodes c.store-nothing.new.arena) (Node.NoArms ∷ []) in
-    (search rules, omega (arith, one, c.store-none.ensures.index))
-
 pub if_statement-returns-in_err-first : goal.if_statement-returns-in_err-first
 if_statement-returns-in_err-first t c =
     let f = c.args.self.now.feed in
@@ -150,18 +95,6 @@ if_statement-returns-in_err-first t c =
     let none = c.store-none.result in
     let begun = if_begun c.args.depth.levels n c.store-nothing.new.arena c.store-none.new.arena word c.store-nothing.ensures.nodes c.store-nothing.ensures.limit c.store-none.ensures.index c.store-none.ensures.nodes c.store-none.ensures.limit in
     stopped_on c.from_residual.result c.from_residual.ensures.1 around (λ s (x : AroundAt c.args.depth.levels). from_arm g c.store-none.new.arena none p s x) begun c.in_err-first.ensures
-
-pub if_statement-elifs-requires : goal.if_statement-elifs-requires
-if_statement-elifs-requires t c =
-    let f = c.args.self.now.feed in
-    let g = c.advance.new.self in
-    let n = c.args.self.now.arena in
-    let p = c.args.next.place in
-    let word : Passed (at (tree.mark tree.if) p) f g = word_passed Mark.If c.args.next c.requires.facing c.requires.kind c.advance.ensures.coming c.advance.ensures.source in
-    let none = c.store-none.result in
-    let begun = if_begun c.args.depth.levels n c.store-nothing.new.arena c.store-none.new.arena word c.store-nothing.ensures.nodes c.store-nothing.ensures.limit c.store-none.ensures.index c.store-none.ensures.nodes c.store-none.ensures.limit in
-    let first = arm_on none p c.in_ok-first.first around begun c.in_ok-first.ensures in
-    (search rules, c.in_ok-first.ensures.leads.stored)
 
 pub if_statement-returns-in_err-arms : goal.if_statement-returns-in_err-arms
 if_statement-returns-in_err-arms t c =
@@ -213,24 +146,6 @@ if_statement-returns-in_err-otherwise t c =
     let k = c.elifs.new.self.feed in
     let ways = (phrase (feed_source f) (arena_nodes c.elifs.new.self.arena) c.in_ok-arms.arms).arms in
     stopped_on c.from_residual-in_err-otherwise.result c.from_residual-in_err-otherwise.ensures.1 (if_ways ways) (λ s (x : ArmsAt c.args.depth.levels). limited 64 (coming k) (more x.ways x.body)) arms c.in_err-otherwise.ensures
-
-pub if_statement-store-requires : goal.if_statement-store-requires
-if_statement-store-requires t c =
-    let f = c.args.self.now.feed in
-    let g = c.advance.new.self in
-    let n = c.args.self.now.arena in
-    let p = c.args.next.place in
-    let word : Passed (at (tree.mark tree.if) p) f g = word_passed Mark.If c.args.next c.requires.facing c.requires.kind c.advance.ensures.coming c.advance.ensures.source in
-    let none = c.store-none.result in
-    let begun = if_begun c.args.depth.levels n c.store-nothing.new.arena c.store-none.new.arena word c.store-nothing.ensures.nodes c.store-nothing.ensures.limit c.store-none.ensures.index c.store-none.ensures.nodes c.store-none.ensures.limit in
-    let first = arm_on none p c.in_ok-first.first around begun c.in_ok-first.ensures in
-    let arms = arms_on c.in_ok-first.first c.in_ok-arms.arms around first c.in_ok-arms.ensures.told in
-    let told = c.in_ok-otherwise.ensures in
-    let more = kept_long told.kept in
-    record {
-      room = room_left (kept_then arms.kept told.kept) c.args.self.now.room (omega (arith, begun.kept.cost, c.in_ok-first.ensures.leads.spare, c.in_ok-arms.ensures.told.leads.spare, told.leads.spare));
-      placed = both_before (omega (arith, more, c.in_ok-arms.ensures.told.leads.stored)) told.leads.stored;
-    }
 
 pub if_statement-returns : goal.if_statement-returns
 if_statement-returns t c =
@@ -334,17 +249,6 @@ block-returns-in_err-last t c =
     stopped_behind c.from_residual-in_err-last.result _ c.from_residual-in_err-last.ensures.1 (block_opened told c.store-before.ensures.nodes c.store-before.ensures.limit) bad.kept
     (λ x. bad.leads (block_first c.in_ok-inner.ensures.deeper (coming c.take_indented.new.self) x))
 
-pub block-store-first-requires : goal.block-store-first-requires
-block-store-first-requires t c =
-    let told = c.in_ok-inner.ensures.told in
-    let first = c.in_ok-last.ensures in
-    let more = kept_long first.kept in
-    let one = ap length c.store-before.ensures.nodes ∙ length-append (arena_nodes c.args.self.now.arena) (NoStatements ∷ []) in
-    record {
-      room = omega (arith, c.args.self.now.room, told.gets.count, c.store-before.ensures.limit, one, first.kept.limit, first.leads.spare);
-      placed = both_before (omega (arith, c.store-before.ensures.index, one, more)) first.leads.stored;
-    }
-
 pub block-statements-requires : goal.block-statements-requires
 block-statements-requires t c =
     let told = c.in_ok-inner.ensures in
@@ -395,25 +299,6 @@ statements-returns-in_err-last t c =
     stopped_behind c.from_residual.result _ c.from_residual.ensures.1
     (still_there {g = g} (λ (x : Sequel c.args.close c.args.depth.levels). start (x.body ss)) inv.2 no.told.0 no.source) bad.kept
     (λ x. bad.leads (sequel_next ss inv.1 (coming g) (subst (Another c.args.close) (sym no.told.0) no.told.1) x))
-
-pub statements-store-before-requires : goal.statements-store-before-requires
-statements-store-before-requires t c =
-    let no = c.loop-close-test.ensures in
-    let inv = c.loop-close.invariant in
-    let told = c.in_ok-last.ensures in
-    let more = kept_long told.kept in
-    let still = ap length no.told.0 in
-    record {
-      room = omega (arith, c.args.self.now.room, inv.2.kept.cost, inv.2.kept.limit, still, told.kept.limit, told.leads.spare);
-      placed = both_before (omega (arith, inv.0, more)) told.leads.stored;
-    }
-
-pub statements-loop-close-smaller : goal.statements-loop-close-smaller
-statements-loop-close-smaller t c =
-    let told = c.in_ok-last.ensures in
-    let more = kept_long told.kept in
-    let still = ap length c.loop-close-test.ensures.told.0 in
-    omega (arith, told.leads.spare, more, still)
 
 pub statements-loop-close-preserved : goal.statements-loop-close-preserved
 statements-loop-close-preserved t c =

@@ -61,26 +61,6 @@ begun-returns-in-Constant t c =
     let face = faced src c.args.next (coming f) (Kind.Constant c.in-Constant.constant) c.requires.facing c.in-Constant.is in
     constant_told (face ∙ ap (λ l. at (tree.lit l) c.args.next.place ∷ drop 1 (coming f)) (sym (c.into-literal.ensures src))) leaf.coming leaf.source leaf.made
 
-pub prefix-returns-in_err-operand : goal.prefix-returns-in_err-operand
-prefix-returns-in_err-operand t c =
-    let f = c.args.self.now.feed in
-    let n = c.args.self.now.arena in
-    let src = feed_source f in
-    let o = c.args.operator in
-    let place = c.args.next.place in
-    let face = faced src c.args.next (coming f) (sign o) c.requires.facing c.requires.kind in
-    let p = passed face c.advance.ensures.coming c.advance.ensures.source in
-    let told = c.in_err-operand.ensures.told in
-    let inner = c.in_ok-inner.ensures in
-    let deep : c.args.depth.levels < 64 = omega (arith, inner, c.in_ok-inner.inner.most) in
-    let reach : c.tight-reach.result ≡ tree.reach (prefix_of o) = c.tight-reach.ensures in
-    exit c.from_residual-in_err-operand.result _ c.from_residual-in_err-operand.ensures.1 (kept_then (kept_passed n p) told.kept)
-    (λ h q.
-    let a = q.asked in
-    ap (λ ts. judged (limited 64 ts (want h))) p.first
-    ∙ ap judged (signs src o h place (coming c.advance.new.self) (le-leb (asks h) (tree.reach (prefix_of o)) (omega (arith, a, reach, c.if-asks-reach.false))) (shallow h q.deep deep))
-    ∙ told.goes (under place (prefix_of o) h) (record { asked = sym reach; deep = omega (arith, q.deep, inner) }))
-
 pub prefix-returns : goal.prefix-returns
 prefix-returns t c =
     let f = c.args.self.now.feed in
@@ -196,28 +176,6 @@ binary-returns-in_err-right t c =
     ∙ ap judged (joins x.place (form_of x.form e) e h (binary_of o) c.args.next.place (coming g) (le-leb (asks h) (tree.level (tree.rank (binary_of o))) a) tight)
     ∙ told.goes (rhs x.place (binary_of o) e h) (record { asked = omega (arith, level); deep = q.deep }))
 
-pub binary-made-requires : goal.binary-made-requires
-binary-made-requires t c =
-    let f = c.args.self.now.feed in
-    let n = c.args.self.now.arena in
-    let src = feed_source f in
-    let o = c.args.operator in
-    let x = c.args.read in
-    let g = c.advance.new.self in
-    let e = (phrase src (arena_nodes n) x.node).expr in
-    let face = faced src c.args.next (coming f) (Kind.Operator o) c.requires.facing c.requires.kind in
-    let p = passed {f = f} {g = g} face c.advance.ensures.coming c.advance.ensures.source in
-    let level : c.level.result ≡ tree.level (tree.rank (binary_of o)) = c.level.ensures.value ∙ ap tree.level c.from-rank.ensures in
-    let tight = ap (leb (tree.left (tree.rank (binary_of o)))) (tight_same x.form e) ∙ c.requires.tight in
-    let told = c.in_ok-right.ensures.told in
-    let long = passed_long p in
-    let kept = kept_then (kept_passed n p) told.kept in
-    let more = kept_long kept in
-    record {
-      room = room_left kept c.args.self.now.room (omega (arith, long, told.goes.spare));
-      placed = both_before (omega (arith, more, c.requires.stored)) told.goes.stored;
-    }
-
 pub binary-returns : goal.binary-returns
 binary-returns t c =
     let f = c.args.self.now.feed in
@@ -251,16 +209,6 @@ binary-returns t c =
     ∙ ap (λ r. limited 64 us (have i (tree.binary r) (tree.bin i (binary_of o) e e') h)) (sym c.from-rank.ensures)
     ∙ ap (λ a'. limited 64 us (have i (tree.binary (rank_of c.from-rank.result)) (tree.bin i (binary_of o) a'.expr e') h)) (sym (kept_phrase src x.node kept c.requires.stored))
     ∙ ap (λ s. limited 64 us (have i (tree.binary (rank_of c.from-rank.result)) (tree.bin i (binary_of o) (phrase src ns x.node).expr (phrase s ns y.node).expr) h)) p.source)
-
-pub call-made-requires : goal.call-made-requires
-call-made-requires t c =
-    let f = c.args.self.now.feed in
-    let n = c.args.self.now.arena in
-    let src = feed_source f in
-    let told = c.in_ok-arguments.ensures.told in
-    let spare = c.in_ok-arguments.ensures.spare in
-    let more = kept_long told.kept in
-    record { room = room_left told.kept c.args.self.now.room (omega (arith, spare)); placed = both_before (omega (arith, more, c.requires.stored)) told.goes.stored }
 
 pub call-returns : goal.call-returns
 call-returns t c =
@@ -328,36 +276,6 @@ index-returns-in_err-take_mark t c =
     ∙ ap judged (subs i (form_of x.form e) e h c.args.next.place (coming g) tight (shallow h q deep) ∙ told.goes.goes (index i e h) spot)
     ∙ unclosed marks.Mark.RightSquare (index i e h) y.place (form_of y.form e') e' (λ j. have i tree.indexed (tree.idx i e e') h) (coming c.expression.new.self.feed) _ (λ j. refl) (ends (index i e h) spot) no.told.0)
 
-pub index-made-requires : goal.index-made-requires
-index-made-requires t c =
-    let f = c.args.self.now.feed in
-    let n = c.args.self.now.arena in
-    let src = feed_source f in
-    let x = c.args.read in
-    let g = c.advance.new.self in
-    let e = (phrase src (arena_nodes n) x.node).expr in
-    let face = faced src c.args.next (coming f) Kind.LeftSquare c.requires.facing c.requires.kind in
-    let p = passed {f = f} {g = g} face c.advance.ensures.coming c.advance.ensures.source in
-    let tight = ap (leb 8) (tight_same x.form e) ∙ c.requires.tight in
-    let inner = c.in_ok-inner.ensures in
-    let deep : c.args.depth.levels < 64 = omega (arith, inner, c.in_ok-inner.inner.most) in
-    let told = c.in_ok-index.ensures.told in
-    let ends = c.in_ok-index.ensures.ends in
-    let y = c.in_ok-index.index in
-    let i = x.place in
-    let ns = arena_nodes c.expression.new.self.arena in
-    let e' = (phrase (feed_source g) ns y.node).expr in
-    let us = c.take_mark.new.self in
-    let r : Passed (at (tree.mark tree.rbracket) c.in_ok-take_mark.ensures.told.0) c.expression.new.self.feed us = record { first = c.in_ok-take_mark.ensures.told.1; source = c.in_ok-take_mark.ensures.source } in
-    let long = passed_long p in
-    let last = passed_long r in
-    let kept = kept_then (kept_passed n p) (kept_then told.kept (kept_passed c.expression.new.self.arena r)) in
-    let more = kept_long kept in
-    record {
-      room = room_left kept c.args.self.now.room (omega (arith, long, last, told.goes.spare));
-      placed = both_before (omega (arith, more, c.requires.stored)) told.goes.stored;
-    }
-
 pub index-returns : goal.index-returns
 index-returns t c =
     let f = c.args.self.now.feed in
@@ -391,12 +309,6 @@ index-returns t c =
     ∙ ap (λ ts. limited 64 ts (have y.place (form_of y.form e') e' (index i e h))) r.first
     ∙ ap (λ a. limited 64 (coming us) (have i tree.indexed (tree.idx i a.expr e') h)) (sym (kept_phrase src x.node kept c.requires.stored))
     ∙ ap (λ s. limited 64 (coming us) (have i tree.indexed (tree.idx i (phrase src ns x.node).expr (phrase s ns y.node).expr) h)) p.source)
-
-pub item-store-requires : goal.item-store-requires
-item-store-requires t c =
-    let told = c.in_ok-last.ensures.told in
-    let more = kept_long told.kept in
-    record { room = room_left told.kept c.args.self.now.room told.goes.spare; placed = both_before (omega (arith, more, c.requires.stored)) told.goes.stored }
 
 pub item-returns : goal.item-returns
 item-returns t c =
@@ -444,15 +356,6 @@ listed-returns-then-passes t c =
     let p : Passed (at (tree.mark (mark_of c.args.close)) r.told.0) g c.passes.new.self = record { first = r.told.1; source = r.source } in
     let long = passed_long p in
     record { told = listed_empty c.args.close o p; spare = omega (arith, long, o.fewer, o.one) }
-
-pub listed-items-requires : goal.listed-items-requires
-listed-items-requires t c =
-    let f = c.args.self.now.feed in
-    let g = c.advance.new.self in
-    let n = c.args.self.now.arena in
-    let o : Opened f n g c.store-empty.new.arena c.store-empty.result = opened c.requires.some c.advance.ensures.coming c.advance.ensures.source c.store-empty.ensures.index c.store-empty.ensures.nodes c.store-empty.ensures.limit in
-    let r = c.if-passes.ensures in
-    (search rules, o.stored)
 
 pub listed-returns : goal.listed-returns
 listed-returns t c =

@@ -19,18 +19,6 @@ use Rattle.reader.proofs.Steps.{Passed, kept_passed, kept_still, passed_long}
 use Rattle.reader.proofs.Storing.{kept_then}
 use Rattle.reader.proofs.parsers.Parser.assignment.Goals as goal
 
-pub returns-in_err-last : goal.returns-in_err-last
-returns-in_err-last c =
-    let m = c.store-targets.new.arena in
-    let i = c.store-targets.result in
-    let yes = c.loop-depth-test.ensures in
-    let st = c.store-targets.ensures in
-    let a : Aimed c.args.depth.levels c.args.place c.args.self.now.feed c.args.self.now.arena c.args.first c.is_assigned.new.self m i = aimed c.loop-depth.invariant yes.told yes.source st.index st.nodes st.limit in
-    let bad = c.in_err-last.ensures.told in
-    let es = (phrase (feed_source c.args.self.now.feed) (arena_nodes m) i).exprs in
-    stopped c.from_residual.result _ c.from_residual.ensures.1 (kept_then a.kept bad.kept)
-    (λ x. ap judged (a.goes x) ∙ bad.goes (line c.args.place es x.body) (line_spot c.args.place es x.body x.deep))
-
 pub loop-depth-preserved : goal.loop-depth-preserved
 loop-depth-preserved c =
     let m = c.store-targets.new.arena in

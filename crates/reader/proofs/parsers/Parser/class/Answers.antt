@@ -60,11 +60,6 @@ returns-in_err-take_indented c =
     (headed n p a c.in_ok-name.ensures on) (kept_taken n bad.source bad.fewer)
     (λ ds. bad.gets (inside (feed_source f) p a ds))
 
-pub class_members-requires : goal.class_members-requires
-class_members-requires c =
-    let one = ap length c.store-none.ensures.nodes ∙ length-append (arena_nodes c.args.self.now.arena) (Node.NoDeclarations ∷ []) in
-    omega (arith, one, c.store-none.ensures.index)
-
 pub returns-in_err-members : goal.returns-in_err-members
 returns-in_err-members c =
     let f = c.args.self.now.feed in
@@ -79,19 +74,6 @@ returns-in_err-members c =
     stopped_behind c.from_residual-in_err-members.result _ c.from_residual-in_err-members.ensures.1
     (opened p a c.in_ok-name.ensures on c.in_ok-take_indented.ensures.told st.index st.nodes st.limit) bad.kept
     (λ ds. bad.leads (named_class (feed_source f) p a ds))
-
-pub store-requires : goal.store-requires
-store-requires c =
-    let st = c.store-none.ensures in
-    let names = c.in_ok-name.ensures in
-    let indent = c.in_ok-take_indented.ensures.told in
-    let told = c.in_ok-members.ensures in
-    let colon = ap length c.in_ok-take_mark.ensures.told.1 in
-    let one = ap length st.nodes ∙ length-append (arena_nodes c.args.self.now.arena) (Node.NoDeclarations ∷ []) in
-    record {
-      room = omega (arith, colon, one, st.limit, names.gets.count, indent.gets.count, told.kept.limit, told.leads.spare, c.args.self.now.room);
-      placed = lt-ltb _ _ told.leads.stored;
-    }
 
 pub returns : goal.returns
 returns c =

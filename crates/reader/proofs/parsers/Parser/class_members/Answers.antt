@@ -27,26 +27,6 @@ returns-in_err-last c =
     stopped_behind c.from_residual.result _ c.from_residual.ensures.1 c.loop-self.invariant.1 (kept_then (kept_still m still.told.0 still.source) bad.kept)
     (λ x. ap (λ ts. judged (limited 64 ts (members_of ds x))) (sym still.told.0) ∙ bad.leads (with_members ds x))
 
-pub store-before-requires : goal.store-before-requires
-store-before-requires c =
-    let inv = c.loop-self.invariant in
-    let still = c.loop-self-test.ensures in
-    let told = c.in_ok-last.ensures in
-    let same = ap length still.told.0 in
-    let long = kept_long told.kept in
-    record {
-      room = omega (arith, inv.1.kept.cost, inv.1.kept.limit, same, told.kept.limit, told.leads.spare, c.args.self.now.room);
-      placed = both_before (omega (arith, inv.0, long)) told.leads.stored;
-    }
-
-pub loop-self-smaller : goal.loop-self-smaller
-loop-self-smaller c =
-    let still = c.loop-self-test.ensures in
-    let told = c.in_ok-last.ensures in
-    let same = ap length still.told.0 in
-    let long = kept_long told.kept in
-    omega (arith, same, long, told.leads.spare)
-
 pub loop-self-preserved : goal.loop-self-preserved
 loop-self-preserved c =
     let src = feed_source c.args.self.now.feed in

@@ -73,22 +73,6 @@ returns-in_err-last g c =
     stopped_behind c.from_residual.result _ c.from_residual.ensures.1 c.loop-last.invariant.1 bad.kept
     (λ x. bad.leads (declared_at (phrase src (arena_nodes c.loop-last.self.arena) c.loop-last.before).decls x))
 
-pub store-before-requires : goal.store-before-requires
-store-before-requires g c =
-    let told : ItemTold g.S.Scope.owns c.args.depth.levels c.loop-last.self.feed c.loop-last.self.arena c.body_item.new.self.feed c.body_item.new.self.arena (Ok (Item.Declaration c.in-Declaration.last)) =
-    subst (λ a. ItemTold g.S.Scope.owns c.args.depth.levels c.loop-last.self.feed c.loop-last.self.arena c.body_item.new.self.feed c.body_item.new.self.arena (Ok a)) c.in-Declaration.is c.in_ok-last.ensures in
-    let long = kept_long told.kept in
-    let old = c.loop-last.invariant.0 in
-    let room = room_on c.loop-last.invariant.1.kept c.args.self.now.room in
-    record { room = room_left told.kept room told.leads.spare; placed = both_before (omega (arith, long, old)) told.leads.stored }
-
-pub loop-last-smaller : goal.loop-last-smaller
-loop-last-smaller g c =
-    let told = c.in_ok-last.ensures in
-    let long = kept_long told.kept in
-    let spare = told.leads.spare in
-    omega (arith, long, spare)
-
 pub loop-last-preserved : goal.loop-last-preserved
 loop-last-preserved g c =
     let f = c.loop-last.self.feed in

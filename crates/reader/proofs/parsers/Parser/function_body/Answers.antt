@@ -62,8 +62,5 @@ returns-in_err-inner c =
     let bad = c.in_err-inner.ensures.told in
     stopped c.from_residual.result _ c.from_residual.ensures.1 (kept_taken c.args.self.now.arena bad.source bad.fewer) (λ x. bad.gets (inward x))
 
-pub whole_body-requires : goal.whole_body-requires
-whole_body-requires c = record { empty = c.empty_body-empty.ensures.empty }
-
 pub returns : goal.returns
 returns c = handed c.in_ok-inner.ensures.told c.in_ok-inner.ensures.deeper c.empty_body-empty.ensures c.whole_body.result c.whole_body.ensures

@@ -15,23 +15,6 @@ use Rattle.reader.proofs.Steps.{Passed, exit, faced, kept_passed, kept_still, pa
 use Rattle.reader.proofs.Storing.{kept_then}
 use Rattle.reader.proofs.parsers.Parser.member.Goals as goal
 
-pub returns-in_err-name : goal.returns-in_err-name
-returns-in_err-name c =
-    let f = c.args.self.now.feed in
-    let n = c.args.self.now.arena in
-    let src = feed_source f in
-    let x = c.args.read in
-    let g = c.advance.new.self in
-    let e = (phrase src (arena_nodes n) x.node).expr in
-    let face = faced src c.args.next (coming f) Kind.Dot c.requires.facing c.requires.kind in
-    let p = passed {f = f} {g = g} face c.advance.ensures.coming c.advance.ensures.source in
-    let no = c.in_err-name.ensures in
-    exit c.from_residual.result _ c.from_residual.ensures.1 (kept_then (kept_passed n p) (kept_still n no.told.1 no.source))
-    (λ h q.
-    ap (λ ts. judged (limited 64 ts (having src (arena_nodes n) x h))) p.first
-    ∙ ap judged (dots x.place (form_of x.form e) e h c.args.next.place (coming g) (ap (leb 8) (tight_same x.form e) ∙ c.requires.tight))
-    ∙ unnamed x.place e h (coming g) _ no.told.0)
-
 pub returns : goal.returns
 returns c =
     let f = c.args.self.now.feed in

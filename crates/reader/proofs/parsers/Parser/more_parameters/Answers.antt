@@ -13,16 +13,6 @@ use Rattle.reader.proofs.Leading.{Along, told_stored}
 use Rattle.reader.proofs.Steps.{both_before, kept_long, kept_phrase}
 use Rattle.reader.proofs.parsers.Parser.more_parameters.Goals as goal
 
-pub store-requires : goal.store-requires
-store-requires c =
-    let ok = c.in_ok-name.ensures in
-    let stored = c.requires.stored in
-    let long = kept_long ok.kept in
-    record {
-      room = omega (arith, ok.kept.limit, ok.spare, c.args.self.now.room);
-      placed = both_before (omega (arith, stored, long)) ok.tells.0;
-    }
-
 -- a parameter's type is complete: the list goes on past the parameter
 sheds : {d : ℕ} (ts : List Token) (ps : Params) (m : Id) (a : Ann) (x : Header d) → limited 64 ts (typed a (of_param x.place x.name ps m x.outer)) ≡ past_param ts (tree.param ps m a) x
 sheds [] ps m a x = refl

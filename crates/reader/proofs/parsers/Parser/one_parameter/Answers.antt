@@ -11,40 +11,6 @@ use Rattle.reader.proofs.ParameterMoves.{colon_comes, no_colon, no_param_name, p
 use Rattle.reader.proofs.Storing.{kept_taken, kept_then, unmade}
 use Rattle.reader.proofs.parsers.Parser.one_parameter.Goals as goal
 
-pub returns-in_err-name : goal.returns-in_err-name
-returns-in_err-name c =
-    let f = c.args.self.now.feed in
-    let n = c.args.self.now.arena in
-    let d = c.args.depth.levels in
-    let bad = c.in_err-name.ensures in
-    let p = err_from_is_err_and c.from_residual.result c.from_residual.ensures.1 in
-    record {
-      kept = kept_taken n bad.source (let l = ap length bad.told.1 in omega arith);
-      tells = subst (ParameterTells (feed_source f) (arena_nodes n) d (coming f) (coming c.take_name.new.self)) (sym (p.1 ∙ ap Err p.2))
-          (λ x ps. no_param_name d x ps (coming f) c.in_err-name.field-0.0 bad.told.0);
-      spare = unmade _ _ c.from_residual.result c.from_residual.ensures.1;
-    }
-
-pub returns-in_err-take_mark : goal.returns-in_err-take_mark
-returns-in_err-take_mark c =
-    let f = c.args.self.now.feed in
-    let g = c.take_name.new.self in
-    let n = c.args.self.now.arena in
-    let d = c.args.depth.levels in
-    let src = feed_source f in
-    let name = c.in_ok-name.name in
-    let ok = c.in_ok-name.ensures in
-    let bad = c.in_err-take_mark.ensures in
-    let p = err_from_is_err_and c.from_residual-in_err-take_mark.result c.from_residual-in_err-take_mark.ensures.1 in
-    record {
-      kept = kept_then (kept_taken {g = g} n ok.source (let l = ap length ok.told in omega arith)) (kept_taken n bad.source (let l = ap length bad.told.1 in omega arith));
-      tells = subst (ParameterTells src (arena_nodes n) d (coming f) (coming c.take_mark.new.self)) (sym (p.1 ∙ ap Err p.2))
-          (λ x ps.
-          ap judged (param_named d x ps name.at (spelled src name) (coming f) (coming g) ok.told)
-          ∙ no_colon (typing (of_param x.place x.name ps (named src name) x.outer)) (coming g) c.in_err-take_mark.field-0.0 bad.told.0);
-      spare = unmade _ _ c.from_residual-in_err-take_mark.result c.from_residual-in_err-take_mark.ensures.1;
-    }
-
 pub returns-in_err-annotation : goal.returns-in_err-annotation
 returns-in_err-annotation c =
     let f = c.args.self.now.feed in

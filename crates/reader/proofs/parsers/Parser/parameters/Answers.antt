@@ -48,11 +48,6 @@ returns-then-passes c =
     new.here (omega (arith, count, one, long))
     (λ x. ap (λ (q : Phrase). limited 64 (coming h) (next q.params x)) (sym new.stands))
 
-pub some_parameters-requires : goal.some_parameters-requires
-some_parameters-requires c =
-    let one = ap length c.store-empty.ensures.nodes ∙ length-append (arena_nodes c.args.self.now.arena) (Node.NoParameters ∷ []) in
-    omega (arith, one, c.store-empty.ensures.index)
-
 either_none : (x : Next) → either x none ≡ x
 either_none none = refl
 either_none (some s) = refl

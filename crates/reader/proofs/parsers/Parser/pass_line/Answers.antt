@@ -14,20 +14,6 @@ use Rattle.reader.proofs.Steps.{Passed, faced, kept_still, passed, passed_long}
 use Rattle.reader.proofs.VariableMoves.{no_line_end}
 use Rattle.reader.proofs.parsers.Parser.pass_line.Goals as goal
 
-pub returns-in_err-take_mark : goal.returns-in_err-take_mark
-returns-in_err-take_mark c =
-    let f = c.args.self.now.feed in
-    let g = c.advance.new.self in
-    let n = c.args.self.now.arena in
-    let p = c.args.next.place in
-    let begun : Passed _ f g = passed (faced (feed_source f) c.args.next (coming f) (Kind.Mark Mark.Pass) c.requires.facing c.requires.kind) c.advance.ensures.coming c.advance.ensures.source in
-    let bad = c.in_err-take_mark.ensures in
-    let next : BodyAt c.args.depth.levels (coming f) → State = λ x. start (add (tree.skip p) x.body) in
-    stopped_behind c.from_residual.result _ c.from_residual.ensures.1
-    (stepped n (λ (x : BodyAt c.args.depth.levels (coming f)). start x.body) (λ x. seq tree.newline [] (next x)) begun (λ x. refl))
-    (kept_still n bad.told.1 bad.source)
-    (λ x. no_line_end (next x) (coming g) _ bad.told.0)
-
 pub returns : goal.returns
 returns c =
     let f = c.args.self.now.feed in

@@ -23,12 +23,6 @@ refused_whole : (src : List ℕ) (ns : List Node) (r : Result Routine Stop) (y :
 refused_whole src ns (Ok a) y v e w = absurd e
 refused_whole src ns (Err z) y v e w = ap stop_of e ∙ sym w
 
-pub whole_body-requires : goal.whole_body-requires
-whole_body-requires c =
-    let made = c.empty_body-empty.ensures in
-    let two = ap length made.nodes ∙ length-append (arena_nodes c.args.self.now.arena) (Node.NoDeclarations ∷ Node.NoStatements ∷ []) in
-    record { empty = made.empty }
-
 pub returns-in_err-whole : goal.returns-in_err-whole
 returns-in_err-whole c =
     let bad = c.in_err-whole.ensures in

@@ -92,13 +92,6 @@ returns-in_err-declarations g c =
     stopped c.from_residual.result _ c.from_residual.ensures.1 bad.kept
     (λ x. ap (λ ds. judged (limited 64 (coming f) (start (base (frame_of x.owner ds) tree.empty)))) (sym (c.requires.empty.none (feed_source f))) ∙ bad.leads x)
 
-pub store-first-requires : goal.store-first-requires
-store-first-requires g c =
-    let told = c.in_ok-declarations.ensures in
-    let long = kept_long told.kept in
-    let old = c.requires.empty.statements in
-    record { room = room_left told.kept c.args.self.now.room told.leads.spare; placed = both_before (omega (arith, long, old)) told.leads.stored.1 }
-
 pub statements-requires : goal.statements-requires
 statements-requires g c =
     let k = c.store-first.new.arena in
