@@ -8,8 +8,8 @@ ghost use Rattle.lexis.specs.declared.bytes.Class.TheVariants.{Blank};
 
 use lexis::bytes::Class;
 
-// Written out, for a table in constant memory: the value of a `static` calls no function.
-static CLASSES: [Class; 256] = [
+// Written out: the value of a constant calls no function. Behind a reference, it lies in memory once.
+const CLASSES: &[Class; 256] = &[
     Class::Other,
     Class::Other,
     Class::Other,

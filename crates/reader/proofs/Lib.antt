@@ -1,4 +1,3 @@
-pub mod Fed
 pub mod MarkFacts
 pub mod Storing
 pub mod Machine

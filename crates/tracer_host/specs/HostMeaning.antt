@@ -7,10 +7,6 @@ use Rattle.tracer_host.specs.declared.hosts.TracerHost.{TracerHost}
 use Rattle.tracer_host.specs.Frames.{unframed}
 use Rattle.tracer_host.specs.Traces.{radius_lines}
 
--- a checked trace, in contracts, is its bytes
-abbrev pub trace_bytes : List ℕ → List ℕ
-trace_bytes t = t
-
 abbrev pub frame_bytes : FrameBuffer → List ℕ
 frame_bytes b = buffer_bytes b.buffer
 

@@ -23,9 +23,6 @@ use Rattle.std.proofs.lemmas.Bool.{lt-ltb}
 use Rattle.grammar.specs.Tree as tree
 use Rattle.reader.proofs.parsers.Parser.+arm_block_elifs_for_statement_guarded_block_if_statement_otherwise_statement_statements_while_statement_worded.Goals as goal
 
-all_before : {a b d k : ℕ} → a < k → b < k → d < k → (ltb a k && (ltb b k && ltb d k)) ≡ true
-all_before {a} {b} {d} {k} x y z = ap (λ w. w && (ltb b k && ltb d k)) (lt-ltb a k x) ∙ both_before y z
-
 pub arm-returns-in_err-condition : goal.arm-returns-in_err-condition
 arm-returns-in_err-condition t c =
     let src = feed_source c.args.self.now.feed in
