@@ -28,10 +28,7 @@ fn step_gap(source: Source<'_>, spot: Spot) -> Option<Spot>
     ensures { Passed source.entry.bytes.now spot result }
 {
     let Spot { pos, mode } = spot;
-    if pos >= source.bytes.len() {
-        return None;
-    }
-    let b = source.bytes[pos];
+    let b = source.byte(pos)?;
     let rest = &source.bytes[pos..];
     let (size, mode) = match (mode, class_of(b)) {
         (Mode::Fresh(column), Class::Blank) => (1, Mode::Fresh(widen(b, column))),
