@@ -126,15 +126,6 @@ expression-returns-in_err-read-2 t c =
       ends = search rules;
     }
 
-pub expression-returns : goal.expression-returns
-expression-returns t c =
-    let x = c.loop-next.read in
-    let e = (phrase (feed_source c.args.self.now.feed) (arena_nodes c.loop-next.self.arena) x.node).expr in
-    record {
-      told = grew_told c.in_ok-read.ensures c.loop-next.invariant;
-      ends = λ h q. stuck_end x.place (form_of x.form e) e h (coming c.loop-next.self.feed) c.in_default.ensures;
-    }
-
 pub expression-returns-in_default-growth_of : goal.expression-returns-in_default-growth_of
 expression-returns-in_default-growth_of t c =
     let x = c.loop-next.read in
@@ -314,37 +305,6 @@ pub item-returns : goal.item-returns
 item-returns t c =
     let told = c.in_ok-last.ensures.told in
     item_told c.args.list c.in_ok-last.last c.requires.stored told c.in_ok-last.ensures.ends c.store.ensures.index c.store.ensures.nodes c.store.ensures.limit
-
-pub items-returns-in_err-list-2 : goal.items-returns-in_err-list-2
-items-returns-in_err-list-2 t c =
-    let r = c.loop-self-test.ensures in
-    let a = c.in_ok-list.ensures in
-    let b = c.in_err-list-2.ensures in
-    let p : Passed _ c.loop-self.self.feed c.passes.new.self = record { first = r.told.1; source = r.source } in
-    exit_list c.from_residual-in_err-list-2.result _ c.from_residual-in_err-list-2.ensures.1 (kept_then a.kept (kept_then c.loop-self.invariant.kept (kept_then (kept_passed c.loop-self.self.arena p) b.kept)))
-    (λ k h q. listing_stop a c.loop-self.invariant p b k h q.0)
-
-pub items-loop-self-preserved : goal.items-loop-self-preserved
-items-loop-self-preserved t c =
-    let r = c.loop-self-test.ensures in
-    listing_more c.loop-self.invariant (record { first = r.told.1; source = r.source }) c.in_ok-list-2.ensures
-
-pub items-returns-in_err-take_mark : goal.items-returns-in_err-take_mark
-items-returns-in_err-take_mark t c =
-    let no = c.loop-self-test.ensures in
-    let a = c.in_ok-list.ensures in
-    let b = c.in_err-take_mark.ensures in
-    let m = c.loop-self.self.arena in
-    exit_list c.from_residual-in_err-take_mark.result _ c.from_residual-in_err-take_mark.ensures.1
-    (kept_then a.kept (kept_then c.loop-self.invariant.kept (kept_then (kept_still {f = c.loop-self.self.feed} {g = c.passes.new.self} m no.told.0 no.source) (kept_still {f = c.passes.new.self} {g = c.take_mark.new.self} m b.told.1 b.source))))
-    (λ k h q. ap judged (listing_told a c.loop-self.invariant k h q.0) ∙ unlisted c.args.close k h _ (coming c.loop-self.self.feed) _ q.1 no.told.1 (subst (λ ts. NoMark c.args.close ts c.in_err-take_mark.field-0.0) no.told.0 b.told.0))
-
-pub items-returns : goal.items-returns
-items-returns t c =
-    let no = c.loop-self-test.ensures in
-    let a = c.in_ok-list.ensures in
-    let b = c.in_ok-take_mark.ensures in
-    listing_end {g = c.loop-self.self.feed} {g' = c.passes.new.self} {k = c.take_mark.new.self} c.args.close a c.loop-self.invariant no.told.0 no.told.1 no.source (record { first = b.told.1; source = b.source })
 
 pub listed-returns-then-passes : goal.listed-returns-then-passes
 listed-returns-then-passes t c =
