@@ -1,4 +1,4 @@
-use Rattle.std.proofs.Common.{◌≡◌, ℕ, ◌+◌, ◌<◌, leb, ◌∷◌, length, drop, Ok, sym, refl, ap, ◌∙◌, subst, arith, rules}
+use Rattle.std.proofs.Common.{◌≡◌, ℕ, ◌+◌, ◌<◌, leb, ◌∷◌, drop, Ok, sym, refl, ap, ◌∙◌, arith, rules}
 use Rattle.std.proofs.lemmas.Bool.{le-leb}
 use Rattle.arena.specs.Tables.{arena_nodes}
 use Rattle.arena.specs.declared.arenas.Arena.{Arena}
@@ -21,10 +21,9 @@ use Rattle.reader.specs.declared.forms.Form.{Form}
 use Rattle.reader.specs.declared.forms.Read.{Read}
 use Rattle.reader.specs.declared.kinds.Kind.{Kind}
 use Rattle.reader.specs.declared.kinds.Mark as marks
-use Rattle.reader.proofs.Machine.{callable_same, goes_on, joins, lists, pars, opens, rests, sheds_op, sheds_pre, signs, stuck_end, stuck_next, subs, tight_same, unclosed}
-use Rattle.reader.specs.Taking.{NoMark}
-use Rattle.reader.proofs.ListSteps.{exit_list, item_told, listing_end, listing_more, listing_stop, listing_told, listed_empty, listed_items, listed_spare, opened, Opened, unlisted}
-use Rattle.reader.proofs.Steps.{Passed, both_before, exit, faced, grew_more, grew_stop, grew_told, kept_long, kept_passed, kept_phrase, kept_still, last_node, passed, passed_long, room_left, shallow, told_made}
+use Rattle.reader.proofs.Machine.{callable_same, goes_on, joins, lists, pars, opens, rests, sheds_op, sheds_pre, signs, stuck_next, subs, tight_same, unclosed}
+use Rattle.reader.proofs.ListSteps.{item_told, listed_empty, listed_items, opened, Opened}
+use Rattle.reader.proofs.Steps.{Passed, exit, faced, grew_more, grew_stop, grew_told, kept_long, kept_passed, kept_phrase, kept_still, last_node, passed, passed_long, shallow, told_made}
 use Rattle.reader.proofs.Storing.{kept_then}
 use Rattle.reader.proofs.parsers.Parser.+begun_binary_call_display_expression_group_grown_index_item_items_listed_operand_prefix.Goals as goal
 
@@ -306,26 +305,21 @@ item-returns t c =
     let told = c.in_ok-last.ensures.told in
     item_told c.args.list c.in_ok-last.last c.requires.stored told c.in_ok-last.ensures.ends c.store.ensures.index c.store.ensures.nodes c.store.ensures.limit
 
-pub listed-returns-then-passes : goal.listed-returns-then-passes
-listed-returns-then-passes t c =
+pub listed-returns-then-passes-clause-told : goal.listed-returns-then-passes-clause-told
+listed-returns-then-passes-clause-told t c =
     let f = c.args.self.now.feed in
     let g = c.advance.new.self in
     let n = c.args.self.now.arena in
     let o : Opened f n g c.store-empty.new.arena c.store-empty.result = opened c.requires.some c.advance.ensures.coming c.advance.ensures.source c.store-empty.ensures.index c.store-empty.ensures.nodes c.store-empty.ensures.limit in
     let r = c.if-passes.ensures in
     let p : Passed (at (tree.mark (mark_of c.args.close)) r.told.0) g c.passes.new.self = record { first = r.told.1; source = r.source } in
-    let long = passed_long p in
-    record { told = listed_empty c.args.close o p; spare = omega (arith, long, o.fewer, o.one) }
+    listed_empty c.args.close o p
 
-pub listed-returns : goal.listed-returns
-listed-returns t c =
+pub listed-returns-clause-told : goal.listed-returns-clause-told
+listed-returns-clause-told t c =
     let f = c.args.self.now.feed in
     let g = c.advance.new.self in
     let n = c.args.self.now.arena in
     let o : Opened f n g c.store-empty.new.arena c.store-empty.result = opened c.requires.some c.advance.ensures.coming c.advance.ensures.source c.store-empty.ensures.index c.store-empty.ensures.nodes c.store-empty.ensures.limit in
     let r = c.if-passes.ensures in
-    let still = ap length r.told.0 in
-    record {
-      told = listed_items {g = g} {g' = c.passes.new.self} c.args.close c.items.result o r.told.0 r.told.1 r.source c.items.ensures;
-      spare = listed_spare (length (arena_nodes n)) (length (coming f)) c.items.result c.items.ensures.kept (omega (arith, still, o.fewer, o.one));
-    }
+    listed_items {g = g} {g' = c.passes.new.self} c.args.close c.items.result o r.told.0 r.told.1 r.source c.items.ensures

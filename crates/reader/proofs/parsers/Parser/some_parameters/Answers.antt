@@ -1,4 +1,4 @@
-use Rattle.std.proofs.Common.{◌≡◌, ℕ, List, [], ◌∷◌, Ok, sym, ap, ◌∙◌, subst, arith}
+use Rattle.std.proofs.Common.{◌≡◌, ℕ, List, [], ◌∷◌, Ok, sym, ap, ◌∙◌}
 use mathlib.Core.Option.{none}
 use Rattle.arena.specs.Tables.{arena_nodes}
 use Rattle.arena.specs.Trees.{phrase}
@@ -16,9 +16,8 @@ use Rattle.reader.specs.Taking.{Another, NoMark}
 use Rattle.reader.specs.declared.feeds.Feed.{Feed}
 use Rattle.reader.specs.declared.kinds.Mark.{Mark}
 use Rattle.reader.specs.declared.refusals.Stop.{Stop}
-use Rattle.reader.proofs.Leading.{Along, along, along_as, led, stopped_behind, told_ok}
-use Rattle.reader.proofs.Steps.{Passed, kept_passed, kept_still}
-use Rattle.reader.proofs.parsers.Parser.some_parameters.Goals as goal
+use Rattle.reader.proofs.Leading.{Along, along_as, led}
+use Rattle.reader.proofs.Steps.{Passed, kept_passed}
 
 -- the list past the parameter at the node i
 abbrev past : (d : ℕ) (src : List ℕ) → Feed → Arena → ℕ → Header d → Reading
@@ -44,4 +43,3 @@ unlisted x ps (t ∷ us) y u b =
 -- what was told in the words of another source
 first_told : {d i : ℕ} {f g : Feed} {n m : Arena} (list : ℕ) → MoreParametersTold d list f n g m (Ok i) → Along (wanted d (feed_source f) f n list) (past d (feed_source g) g m i) f n g m
 first_told {i = i} {g = g} {m = m} list t = along_as (led t (λ x. x)) (λ x. ap (λ s. past_param (coming g) (phrase s (arena_nodes m) i).params x) (sym t.kept.source))
-

@@ -21,7 +21,7 @@ use Rattle.reader.specs.declared.refusals.Stop.{Stop}
 use Rattle.reader.proofs.BodySteps.{sequel}
 use Rattle.reader.proofs.Leading.{Along, stopped, stopped_behind}
 use Rattle.reader.proofs.ListSteps.{kept_store, stored_phrase}
-use Rattle.reader.proofs.Steps.{both_before, kept_long, kept_phrase, room_left}
+use Rattle.reader.proofs.Steps.{kept_long, kept_phrase}
 use Rattle.reader.proofs.Storing.{kept_then, stays}
 use Rattle.reader.proofs.parsers.Parser.whole_body.Goals as goal
 
@@ -92,18 +92,15 @@ returns-in_err-declarations g c =
     stopped c.from_residual.result _ c.from_residual.ensures.1 bad.kept
     (λ x. ap (λ ds. judged (limited 64 (coming f) (start (base (frame_of x.owner ds) tree.empty)))) (sym (c.requires.empty.none (feed_source f))) ∙ bad.leads x)
 
-pub statements-requires : goal.statements-requires
-statements-requires g c =
+pub statements-requires-clause-some : goal.statements-requires-clause-some
+statements-requires-clause-some g c =
     let k = c.store-first.new.arena in
     let e = c.args.empty in
     let v = c.in_ok-declarations.field-0 in
     let none = c.requires.empty in
     let told = c.in_ok-declarations.ensures in
     let st = c.store-first.ensures in
-    record {
-      stored = first_here k e v none told st.index st.nodes st.limit;
-      some = first_filled k e v none told st.index st.nodes st.limit (feed_source c.declarations.new.self.feed);
-    }
+    first_filled k e v none told st.index st.nodes st.limit (feed_source c.declarations.new.self.feed)
 
 pub returns-in_err-statements : goal.returns-in_err-statements
 returns-in_err-statements g c =
