@@ -45,9 +45,6 @@ module _ {P : Owner → Type 0} {d j : ℕ} {f g : Feed} {n m : Arena} (k : Aren
             ∙ ap (λ (q : Phrase). limited 64 (coming g) (start (base (frame_of x.owner q.decls) (phrase src (arena_nodes k) j).stmts))) (sym declared);
       }
 
-  first_here : j < length (arena_nodes k)
-  first_here = let one = ap length nodes ∙ length-append (arena_nodes m) (Node.MoreStatements e.statements v.statement ∷ []) in omega (arith, one, index)
-
   first_filled : (src : List ℕ) → Filled (phrase src (arena_nodes k) j).stmts
   first_filled src = subst (λ (q : Phrase). Filled q.stmts) (sym (stored_phrase m k (Node.MoreStatements e.statements v.statement) j src index nodes)) tt
 
