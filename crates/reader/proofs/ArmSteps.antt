@@ -73,13 +73,6 @@ pub arms_on : {X : Type 0} {d : ℕ} {o : X → Reading} {f g h : Feed} {n m l :
     → ArmsTold d before g m h l (Ok i) → Along o (λ x. past_arms h l (feed_source f) i (place x)) f n h l
 arms_on {d = d} {g = g} {h = h} {m = m} {l = l} before i place b t = led_on place (λ s (x : AroundAt d). past_arms g m s before x) (λ s j x. past_arms h l s j x) b t
 
--- the word before one arm more
-pub elif_on : {d q : ℕ} {o : AroundAt d → Reading} {f g h : Feed} {n m : Arena} (before : ℕ) → Along o (past_arms g m (feed_source f) before) f n g m → Passed (at (tree.mark tree.elif) q) g h
-    → Along o (from_arm h m before q (feed_source f)) f n h m
-elif_on {d = d} {q = q} {f = f} {m = m} before b p =
-    let aa = (phrase (feed_source f) (arena_nodes m) before).arms in
-    along b (stepped m (λ (x : AroundAt d). more aa x.body) (λ x. want (arm_test aa q x.body)) p (λ x. refl))
-
 -- the word that begins a statement was passed
 pub word_passed : {f g : Feed} (m : Mark) (next : Next) → NextTold (feed_source f) (coming f) (Some next) → next.kind ≡ Kind.Mark m → coming g ≡ drop 1 (coming f) → feed_source g ≡ feed_source f
     → Passed (at (tree.mark (mark_of m)) next.place) f g

@@ -1,5 +1,5 @@
 -- How what is told of lists is put together.
-use Rattle.std.proofs.Common.{◌≡◌, ℕ, suc, ◌+◌, ◌*◌, ◌<◌, ◌≤◌, List, [], ◌∷◌, ◌++◌, length, drop, IsErrAnd, IfOk, Ok, Err, Result, sym, refl, ap, ◌∙◌, subst, append_assoc, arith, length-append}
+use Rattle.std.proofs.Common.{◌≡◌, ℕ, suc, ◌+◌, ◌*◌, ◌<◌, ◌≤◌, List, [], ◌∷◌, ◌++◌, length, drop, Ok, Err, Result, sym, refl, ap, ◌∙◌, append_assoc, arith, length-append}
 use mathlib.Core.Option.{none}
 use Rattle.arena.proofs.Growth.{trees_stand}
 use Rattle.arena.specs.Tables.{arena_limit, arena_nodes}
@@ -16,9 +16,8 @@ use Rattle.reader.specs.Feeds.{coming, feed_source}
 use Rattle.reader.specs.Forms.{form_of}
 use Rattle.reader.specs.Kinds.{mark_of}
 use Rattle.reader.specs.Lists.{Closed, ToldList, Within, between, closed_list, in_list}
-use Rattle.reader.specs.Taking.{Another, NoMark}
+use Rattle.reader.specs.Taking.{Another}
 use Rattle.reader.specs.Keeping.{Kept}
-use Rattle.reader.specs.Stops.{stop_of}
 use Rattle.reader.specs.Told.{Ends, Spot, Stuck, Told}
 use Rattle.reader.specs.declared.feeds.Feed.{Feed}
 use Rattle.reader.specs.declared.forms.Read.{Read}
@@ -46,12 +45,6 @@ kept_store {n = n} {m = m} node kept e l cost =
 pub stored_phrase : (m k : Arena) (node : Node) (i : ℕ) (src : List ℕ) → i ≡ length (arena_nodes m) → arena_nodes k ≡ arena_nodes m ++ (node ∷ []) → phrase src (arena_nodes k) i ≡ over src (phrase src (arena_nodes m)) node
 stored_phrase m k node i src e n =
     ap (phrase src (arena_nodes k)) e ∙ ap (λ ns. phrase src ns (length (arena_nodes m))) n ∙ trees_stand.new src (arena_nodes m) node
-
--- the exit of a `?`
-pub exit_list : {P : Group → Hole → Type 0} {o : Group → Hole → Reading} {w : Exprs → Group → Hole → Reading} {f g : Feed} {n m : Arena} (r : Result ℕ Stop) (y : Stop) → IsErrAnd r (λ z. z ≡ y) → Kept f n g m
-    → ((k : Group) (h : Hole) → P k h → judged (o k h) ≡ stop_of y) → ToldList P o w f n g m r
-exit_list (Ok i) y e k w = absurd e
-exit_list (Err z) y e k w = record { kept = k; goes = λ g h p. w g h p ∙ ap stop_of (sym e) }
 
 -- an element leaves its hole
 sheds_item : (i : ℕ) (f : Form) (e : Expr) (es : Exprs) (g : Group) (h : Hole) (us : List Token) → Stuck i f e (group g es h) us
@@ -86,72 +79,6 @@ pub record Listing (d : ℕ) (f : Feed) (n : Arena) (x : ℕ) (g : Feed) (m : Ar
   pub kept : Kept f n g m
   pub stored : y < length (arena_nodes m)
   pub goes : (k : Group) (h : Hole) → Within d k h → between (coming f) (phrase (feed_source f) (arena_nodes n) x).exprs k h ≡ between (coming g) (phrase (feed_source f) (arena_nodes m) y).exprs k h
-
--- a comma and one element more
-pub comma_on : {d x y : ℕ} {f g g' : Feed} {n m : Arena} {q : ℕ} → Listing d f n x g m y → Passed (at (tree.mark tree.comma) q) g g' → (j : Group) (h : Hole) → Within d j h
-    → between (coming f) (phrase (feed_source f) (arena_nodes n) x).exprs j h ≡ in_list (coming g') (phrase (feed_source g') (arena_nodes m) y).exprs j h
-comma_on {y = y} {f = f} {g = g} {g' = g'} {m = m} a p j h w =
-    a.goes j h w
-    ∙ ap (λ ts. between ts (phrase (feed_source f) (arena_nodes m) y).exprs j h) p.first
-    ∙ ap (λ s. in_list (coming g') (phrase s (arena_nodes m) y).exprs j h) (sym (p.source ∙ a.kept.source))
-
-pub listing_more : {d x y z : ℕ} {f g g' k' : Feed} {n m k : Arena} {q : ℕ} → Listing d f n x g m y → Passed (at (tree.mark tree.comma) q) g g'
-    → ToldList (Within d) (in_list (coming g') (phrase (feed_source g') (arena_nodes m) y).exprs) (between (coming k')) g' m k' k (Ok z) → Listing d f n x k' k z
-listing_more {z = z} {f = f} {k' = k'} {m = m} {k = k} a p b = record {
-  kept = kept_then a.kept (kept_then (kept_passed m p) b.kept);
-  stored = b.goes.stored;
-  goes = λ j h w. comma_on a p j h w ∙ b.goes.goes j h w ∙ ap (λ s. between (coming k') (phrase s (arena_nodes k) z).exprs j h) (p.source ∙ a.kept.source);
-}
-
-pub listing_told : {d x y : ℕ} {o : Group → Hole → Reading} {e f g : Feed} {l n m : Arena} → ToldList (Within d) o (between (coming f)) e l f n (Ok x) → Listing d f n x g m y
-    → (j : Group) (h : Hole) → Within d j h → o j h ≡ between (coming g) (phrase (feed_source e) (arena_nodes m) y).exprs j h
-listing_told {x = x} {y = y} {f = f} {g = g} {n = n} {m = m} a b j h w =
-    a.goes.goes j h w
-    ∙ ap (λ s. between (coming f) (phrase s (arena_nodes n) x).exprs j h) (sym a.kept.source)
-    ∙ b.goes j h w
-    ∙ ap (λ s. between (coming g) (phrase s (arena_nodes m) y).exprs j h) a.kept.source
-
-pub listing_stop : {d x y : ℕ} {o : Group → Hole → Reading} {e f g g' k' : Feed} {l n m k : Arena} {q : ℕ} {z : Stop} → ToldList (Within d) o (between (coming f)) e l f n (Ok x) → Listing d f n x g m y
-    → Passed (at (tree.mark tree.comma) q) g g' → ToldList (Within d) (in_list (coming g') (phrase (feed_source g') (arena_nodes m) y).exprs) (between (coming k')) g' m k' k (Err z)
-    → (j : Group) (h : Hole) → Within d j h → judged (o j h) ≡ stop_of z
-listing_stop {x = x} {f = f} {n = n} a b p c j h w =
-    ap judged (a.goes.goes j h w ∙ ap (λ s. between (coming f) (phrase s (arena_nodes n) x).exprs j h) (sym a.kept.source) ∙ comma_on b p j h w) ∙ c.goes j h w
-
--- neither a comma nor the end of the list comes
-pub unlisted : (m : Mark) (j : Group) (h : Hole) (es : Exprs) (us : List Token) (y : Stop) → closer j ≡ mark_of m → Another Mark.Comma us → NoMark m us y → judged (between us es j h) ≡ stop_of y
-unlisted m j h es [] y c u b = sym b
-unlisted m j h es (t ∷ us) y c u b =
-    let s : ℕ → State = λ q. want (group j es h) in
-    let s' : ℕ → State = λ q. have (from j) tree.closed (build j es) h in
-    ap (λ x. judged (proceeds (limited 64 us) (exceeds 64 (sees (have 0 tree.closed (tree.con 0 tree.lit_none) (group j es h)) t)) t us x))
-    (ap (λ x. either x (either (expect (closer j) s' t) none)) (u s) ∙ ap (λ x. either (expect x s' t) none) c ∙ ap (λ x. either x none) (b.0 s'))
-    ∙ sym b.1
-
-list_ends : (m : Mark) (j : Group) (h : Hole) (es : Exprs) (q : ℕ) (us : List Token) → closer j ≡ mark_of m → Another Mark.Comma (at (tree.mark (mark_of m)) q ∷ us)
-    → between (at (tree.mark (mark_of m)) q ∷ us) es j h ≡ closed_list us es j h
-list_ends m j h es q us c u =
-    let s : ℕ → State = λ i. want (group j es h) in
-    let s' : ℕ → State = λ i. have (from j) tree.closed (build j es) h in
-    let t = at (tree.mark (mark_of m)) q in
-    ap (λ x. proceeds (limited 64 us) none t us x)
-    (ap (λ x. either x (either (expect (closer j) s' t) none)) (u s) ∙ ap (λ x. either (expect x s' t) none) c ∙ ap (λ x. either x none) (taken m s' q))
-
-pub listing_end : {d x y : ℕ} {o : Group → Hole → Reading} {e f g g' k : Feed} {l n m : Arena} {q : ℕ} (close : Mark) → ToldList (Within d) o (between (coming f)) e l f n (Ok x) → Listing d f n x g m y
-    → coming g' ≡ coming g → Another Mark.Comma (coming g) → feed_source g' ≡ feed_source g → Passed (at (tree.mark (mark_of close)) q) g' k
-    → ToldList (λ j h. Within d j h × (closer j ≡ mark_of close)) o (closed_list (coming k)) e l k m (Ok y)
-listing_end {y = y} {e = e} {g = g} {g' = g'} {k = k} {m = m} {q = q} close a b still u s p =
-    let es = (phrase (feed_source e) (arena_nodes m) y).exprs in
-    let now = sym still ∙ p.first in
-    record {
-      kept = kept_then a.kept (kept_then b.kept (kept_then (kept_still m still s) (kept_passed m p)));
-      goes = record {
-        stored = b.stored;
-        goes = λ j h w.
-            listing_told a b j h w.0
-            ∙ ap (λ ts. between ts es j h) now
-            ∙ list_ends close j h es q (coming k) w.1 (subst (Another Mark.Comma) now u);
-      };
-    }
 
 -- a list is empty, or begins
 first_ends : (m : Mark) (j : Group) (h : Hole) (q : ℕ) (us : List Token) → closer j ≡ mark_of m → limited 64 (at (tree.mark (mark_of m)) q ∷ us) (first j h) ≡ closed_list us tree.nil j h
@@ -228,8 +155,3 @@ listed_items {f} {g} {g'} {k} {n} {m} {m'} {i} {d} close r o still u s a =
     λ j h c. ap (λ ts. limited 64 ts (first j h)) (sym o.tokens) ∙ first_begins close j h (coming g) c u
     ∙ ap (λ ts. in_list ts tree.nil j h) (sym still) ∙ ap (λ es. in_list (coming g') es j h) (sym (o.empty (feed_source g'))) in
     listed_by r kept begin (s ∙ o.kept.source) a
-
-pub listed_spare : {g k : Feed} {m m' : Arena} (a b : ℕ) (r : Result ℕ Stop) → Kept g m k m' → length (arena_nodes m) + 2 + 4 * length (coming g) ≤ a + 4 * b
-    → IfOk r (λ x. length (arena_nodes m') + 2 + 4 * length (coming k) ≤ a + 4 * b)
-listed_spare a b (Ok x) kept l = omega (arith, kept.cost, l)
-listed_spare a b (Err y) kept l = tt

@@ -5,7 +5,7 @@ use Rattle.arena.specs.Trees.{binary_of, prefix_of}
 use Rattle.arena.specs.declared.nodes.PrefixOperator.{PrefixOperator}
 use Rattle.grammar.specs.Tree as tree
 use Rattle.grammar.specs.Tree.{Expr, Form, Mark, Op, Pre, Rank, Token, at, place}
-use Rattle.grammar.specs.Reader.{Hole, Next, Offer, State, add, asks, block_of, build, calls, closer, either, expect, from, grows, have, leaves, on, only, pick, start, step, vars, want, when}
+use Rattle.grammar.specs.Reader.{Hole, Next, Offer, State, add, asks, block_of, build, closer, either, expect, from, grows, have, leaves, on, only, pick, start, step, vars, want, when}
 use Rattle.grammar.specs.Reader.{field, first, naming, of_call, of_list, arm_test, arms, each_of, eachs, group, index, line, loop_test, loops, paren, rhs, under, value}
 use Rattle.grammar.specs.Limits.{exceeds, hole_depth, label, limited, no_label, proceeds, sees}
 use Rattle.grammar.specs.Profile.{opening, plain}
@@ -13,7 +13,7 @@ use Rattle.grammar.specs.Verdict.{fault, judged, refused}
 use Rattle.reader.specs.Forms.{form_of, is_callable, tight_of}
 use Rattle.reader.specs.Growing.{Grown, growth_of, sign}
 use Rattle.reader.specs.Kinds.{kind_model, mark_of}
-use Rattle.reader.specs.Taking.{NoMark, NoName}
+use Rattle.reader.specs.Taking.{NoMark}
 use Rattle.reader.specs.Stops.{stop_of}
 use Rattle.reader.specs.Told.{Stuck}
 use Rattle.reader.specs.declared.forms.Form as code
@@ -58,15 +58,6 @@ pub unclosed : (m : marks.Mark) (k : Hole) (i : ℕ) (f : Form) (e : Expr) (s : 
 unclosed m k i f e s [] y l z b = sym b
 unclosed m k i f e s (t ∷ us) y l z b =
     bars t us (have i f e k) (ap (λ x. either x (leaves k i f e t)) z ∙ l t ∙ ap (λ x. either x none) (b.0 s)) ∙ sym b.1
-
--- The name of a member does not come.
-pub unnamed : (i : ℕ) (e : Expr) (h : Hole) (ts : List Token) (y : Stop) → NoName ts y → judged (limited 64 ts (naming (field i e h))) ≡ stop_of y
-unnamed i e h [] y b = sym b
-unnamed i e h (t ∷ ts) y b = bars t ts (naming (field i e h)) (b.0 (calls (field i e h))) ∙ sym b.1
-
--- Nothing goes on with an expression at the end.
-pub stuck_end : (i : ℕ) (f : Form) (e : Expr) (h : Hole) (ts : List Token) → ts ≡ [] → Stuck i f e h ts
-stuck_end i f e h ts q = subst (Stuck i f e h) (sym q) tt
 
 pub stuck_next : (i : ℕ) (f : Form) (e : Expr) (h : Hole) (t : Token) (ts us : List Token) → ts ≡ t ∷ us → grows i f e h t ≡ none → Stuck i f e h ts
 stuck_next i f e h t ts us q n = subst (Stuck i f e h) (sym q) n

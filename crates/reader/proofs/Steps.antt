@@ -3,7 +3,7 @@ use Rattle.std.proofs.Common.{◌≡◌, ℕ, suc, ◌+◌, ◌*◌, ◌<◌, �
 use Rattle.std.proofs.lemmas.List.{append-nil}
 use Rattle.std.proofs.lemmas.Bool.{lt-leb, lt-ltb}
 use Rattle.arena.proofs.Growth.{trees_stand}
-use Rattle.arena.specs.Tables.{arena_limit, arena_nodes}
+use Rattle.arena.specs.Tables.{arena_nodes}
 use Rattle.arena.specs.Trees.{over, phrase}
 use Rattle.arena.specs.declared.arenas.Arena.{Arena}
 use Rattle.arena.specs.declared.nodes.Node.{Node}
@@ -13,7 +13,7 @@ use Rattle.grammar.specs.Limits.{hole_depth, limited}
 use Rattle.grammar.specs.Verdict.{judged}
 use Rattle.reader.specs.Feeds.{coming, feed_source}
 use Rattle.reader.specs.Forms.{form_of}
-use Rattle.reader.specs.Keeping.{Kept, Room}
+use Rattle.reader.specs.Keeping.{Kept}
 use Rattle.reader.specs.Stops.{stop_of}
 use Rattle.reader.specs.Told.{Made, NamedAt, NamedBy, Told, Went, having}
 use Rattle.reader.specs.declared.feeds.Feed.{Feed}
@@ -134,13 +134,6 @@ faced src n ts k a e = a ∙ ap (λ x. at (kind_model src n.place x) n.place ∷
 -- at a known depth
 pub shallow : {d : ℕ} (h : Hole) → hole_depth h ≡ d → d < 64 → leb 64 (hole_depth h) ≡ false
 shallow h e l = lt-leb 64 (hole_depth h) (omega (arith, e, l))
-
--- the table has room still
-pub room_on : {f g : Feed} {n m : Arena} → Kept f n g m → Room f n → Room g m
-room_on k r = omega (arith, k.cost, k.limit, r)
-
-pub room_left : {f g : Feed} {n m : Arena} → Kept f n g m → Room f n → length (arena_nodes m) + 1 + 4 * length (coming g) ≤ length (arena_nodes n) + 4 * length (coming f) → length (arena_nodes m) < arena_limit m
-room_left k r s = omega (arith, k.limit, r, s)
 
 pub both_before : {a b k : ℕ} → a < k → b < k → (ltb a k && ltb b k) ≡ true
 both_before {a} {b} {k} x y = ap (λ z. z && ltb b k) (lt-ltb a k x) ∙ lt-ltb b k y

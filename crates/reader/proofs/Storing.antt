@@ -1,15 +1,14 @@
 -- What a node that was just stored stands for, and what the reader keeps.
-use Rattle.std.proofs.Common.{◌≡◌, ℕ, ◌+◌, ◌<◌, ◌≤◌, List, [], ◌∷◌, ◌++◌, length, drop, IsErrAnd, IfOk, Ok, Err, Result, sym, refl, ap, ◌∙◌, append_assoc, arith, length-append}
-use Rattle.std.proofs.lemmas.List.{append-nil, length-drop}
+use Rattle.std.proofs.Common.{◌≡◌, ℕ, ◌<◌, ◌≤◌, List, [], ◌∷◌, ◌++◌, length, sym, refl, ap, ◌∙◌, append_assoc, arith, length-append}
+use Rattle.std.proofs.lemmas.List.{append-nil}
 use Rattle.arena.specs.declared.arenas.Arena.{Arena}
 use Rattle.arena.specs.declared.nodes.Node.{Node}
-use Rattle.arena.specs.Tables.{arena_limit, arena_nodes}
+use Rattle.arena.specs.Tables.{arena_nodes}
 use Rattle.arena.specs.Trees.{over, phrase}
 use Rattle.arena.proofs.Growth.{trees_stand}
 use Rattle.reader.specs.Feeds.{coming, feed_source}
 use Rattle.reader.specs.Keeping.{Kept}
 use Rattle.reader.specs.declared.feeds.Feed.{Feed}
-use Rattle.reader.specs.declared.refusals.Stop.{Stop}
 
 -- a node stored behind some others
 pub record Stored (src : List ℕ) (ns ns' : List Node) (node : Node) (i : ℕ) : Type 0 where
@@ -49,20 +48,3 @@ kept_then {f} {g} {h} {n} {m} {k} a b =
 -- some tokens were taken
 pub kept_taken : {f g : Feed} (n : Arena) → feed_source g ≡ feed_source f → length (coming g) ≤ length (coming f) → Kept f n g n
 kept_taken {f} {g} n s l = record { source = s; more = []; nodes = sym (append-nil (arena_nodes n)); limit = refl; fewer = omega arith; cost = omega arith }
-
--- a token was taken, and a node stored
-pub kept_one : {f g : Feed} {n m : Arena} (node : Node) → feed_source g ≡ feed_source f → length (coming g) + 1 ≤ length (coming f) → arena_nodes m ≡ arena_nodes n ++ (node ∷ []) → arena_limit m ≡ arena_limit n → Kept f n g m
-kept_one {f} {g} {n} {m} node s l e k =
-    let x = ap length e ∙ length-append (arena_nodes n) (node ∷ []) in
-    record { source = s; more = node ∷ []; nodes = e; limit = k; fewer = omega arith; cost = omega arith }
-
-pub shorter : {A : Type 0} (x : A) (xs ys zs : List A) → xs ≡ x ∷ ys → zs ≡ ys → length zs + 1 ≤ length xs
-shorter x xs ys zs e f = let a = ap length e in let b = ap length f in omega arith
-
-pub shorter_or_same : {A : Type 0} (xs ys : List A) → ys ≡ drop 1 xs → length ys ≤ length xs
-shorter_or_same xs ys e = let a = ap length e ∙ length-drop 1 xs in omega arith
-
--- a refusal makes nothing
-pub unmade : {A : Type 0} (P : A → Type 0) (y : Stop) (r : Result A Stop) → IsErrAnd r (λ z. z ≡ y) → IfOk r P
-unmade P y (Ok i) e = absurd e
-unmade P y (Err z) e = tt

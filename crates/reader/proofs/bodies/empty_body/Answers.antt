@@ -1,4 +1,4 @@
-use Rattle.std.proofs.Common.{[], ◌∷◌, ◌++◌, length, refl, ap, ◌∙◌, append_assoc, arith, length-append}
+use Rattle.std.proofs.Common.{[], ◌∷◌, ◌++◌, length, ap, ◌∙◌, append_assoc, arith, length-append}
 use Rattle.arena.specs.Tables.{arena_nodes}
 use Rattle.arena.specs.declared.nodes.Node.{Node}
 use Rattle.arena.specs.Trees.{Phrase}

@@ -39,14 +39,6 @@ invariant_of-parser c =
     let none = ap length (c.take.ensures.nodes ∙ c.requires.empty) in
     record { room = omega (arith, few, none, c.take.ensures.limit, c.requires.room) }
 
-pub program-read-requires : goal.program-read-requires
-program-read-requires c =
-    let s = c.args.source.now in
-    let all = all_coming s (length c.args.slots.now) c.new.result c.new-feed.result c.requires.short c.requires.levels c.new.ensures.enough c.new-feed.ensures.coming in
-    let few = tokens_fit s (coming c.new-feed.result) c.requires.short all in
-    let none = ap length (c.take.ensures.nodes ∙ c.requires.empty) in
-    omega (arith, few, none, c.take.ensures.limit, c.requires.room)
-
 pub map_err-requires : goal.map_err-requires
 map_err-requires c e is ends =
     let s = c.args.source.now in

@@ -1,17 +1,16 @@
-use Rattle.std.proofs.Common.{◌≡◌, ℕ, ◌<◌, true, ◌&&◌, ltb, [], ◌∷◌, length, sym, refl, ap, ◌∙◌, subst, arith, length-append, rules}
+use Rattle.std.proofs.Common.{◌≡◌, ◌<◌, [], ◌∷◌, length, sym, refl, ap, ◌∙◌, subst, arith, length-append, rules}
 use Rattle.arena.specs.Tables.{arena_nodes}
 use Rattle.arena.specs.Trees.{Phrase, phrase, spelled}
 use Rattle.arena.specs.declared.nodes.Node.{Node}
-use Rattle.arena.specs.declared.nodes.Node.TheVariants.{NoStatements}
 use Rattle.grammar.specs.Limits.{limited}
 use Rattle.grammar.specs.Reader.{State, add, more, other, seq, start}
 use Rattle.grammar.specs.Tree.{at}
-use Rattle.reader.proofs.ArmSteps.{arm_on, arms_on, around, block_on, elif_on, else_block, for_begun, for_test, from_arm, from_test, if_begun, if_test, if_ways, no_else, past_arms, while_begun, while_test, word_passed}
+use Rattle.reader.proofs.ArmSteps.{arm_on, arms_on, around, block_on, else_block, for_begun, for_test, from_arm, from_test, if_begun, if_test, if_ways, no_else, past_arms, while_begun, while_test, word_passed}
 use Rattle.reader.proofs.BlockSteps.{Begun, block_begun, block_first, block_inward, block_opened, block_told, guarded, nested, one_more, sequel_ends, sequel_next, settled_told, still_there, tested_colon}
 use Rattle.reader.proofs.Leading.{along, led, led_on, stepped, stopped, stopped_behind, stopped_on, told_on, told_stored}
 use Rattle.reader.proofs.ListSteps.{stored_phrase}
-use Rattle.reader.proofs.Steps.{Passed, both_before, faced, kept_long, kept_phrase, kept_still, passed_long, room_left}
-use Rattle.reader.proofs.Storing.{kept_all, kept_taken, kept_then, stays, unmade}
+use Rattle.reader.proofs.Steps.{Passed, kept_long, kept_phrase, kept_still, passed_long}
+use Rattle.reader.proofs.Storing.{kept_taken, kept_then, stays}
 use Rattle.reader.specs.Feeds.{coming, feed_source}
 use Rattle.reader.specs.Keeping.{Kept}
 use Rattle.reader.specs.Kinds.{mark_of}
@@ -19,7 +18,6 @@ use Rattle.reader.specs.Places.{ArmsAt, AroundAt, NestAt, Sequel, TestAt, nest_b
 use Rattle.reader.specs.Taking.{Another}
 use Rattle.reader.specs.Told.{read_expr}
 use Rattle.reader.specs.declared.kinds.Mark.{Mark}
-use Rattle.std.proofs.lemmas.Bool.{lt-ltb}
 use Rattle.grammar.specs.Tree as tree
 use Rattle.reader.proofs.parsers.Parser.+arm_block_elifs_for_statement_guarded_block_if_statement_otherwise_statement_statements_while_statement_worded.Goals as goal
 

@@ -1,4 +1,4 @@
-use Rattle.std.proofs.Common.{◌≡◌, ℕ, ◌+◌, ◌<◌, leb, ◌∷◌, length, drop, Ok, sym, refl, ap, ◌∙◌, subst, arith, rules}
+use Rattle.std.proofs.Common.{◌≡◌, ℕ, ◌+◌, ◌<◌, leb, ◌∷◌, drop, Ok, sym, refl, ap, ◌∙◌, arith, rules}
 use Rattle.std.proofs.lemmas.Bool.{le-leb}
 use Rattle.arena.specs.Tables.{arena_nodes}
 use Rattle.arena.specs.declared.arenas.Arena.{Arena}
@@ -21,10 +21,9 @@ use Rattle.reader.specs.declared.forms.Form.{Form}
 use Rattle.reader.specs.declared.forms.Read.{Read}
 use Rattle.reader.specs.declared.kinds.Kind.{Kind}
 use Rattle.reader.specs.declared.kinds.Mark as marks
-use Rattle.reader.proofs.Machine.{callable_same, goes_on, joins, lists, pars, opens, rests, sheds_op, sheds_pre, signs, stuck_end, stuck_next, subs, tight_same, unclosed}
-use Rattle.reader.specs.Taking.{NoMark}
-use Rattle.reader.proofs.ListSteps.{exit_list, item_told, listing_end, listing_more, listing_stop, listing_told, listed_empty, listed_items, listed_spare, opened, Opened, unlisted}
-use Rattle.reader.proofs.Steps.{Passed, both_before, exit, faced, grew_more, grew_stop, grew_told, kept_long, kept_passed, kept_phrase, kept_still, last_node, passed, passed_long, room_left, shallow, told_made}
+use Rattle.reader.proofs.Machine.{callable_same, goes_on, joins, lists, pars, opens, rests, sheds_op, sheds_pre, signs, stuck_next, subs, tight_same, unclosed}
+use Rattle.reader.proofs.ListSteps.{item_told, listed_empty, listed_items, opened, Opened}
+use Rattle.reader.proofs.Steps.{Passed, exit, faced, grew_more, grew_stop, grew_told, kept_long, kept_passed, kept_phrase, kept_still, last_node, passed, passed_long, shallow, told_made}
 use Rattle.reader.proofs.Storing.{kept_then}
 use Rattle.reader.proofs.parsers.Parser.+begun_binary_call_display_expression_group_grown_index_item_items_listed_operand_prefix.Goals as goal
 
@@ -124,15 +123,6 @@ expression-returns-in_err-read-2 t c =
     record {
       told = exit c.from_residual-in_err-read-2.result _ c.from_residual-in_err-read-2.ensures.1 k (grew_stop a c.loop-next.invariant b);
       ends = search rules;
-    }
-
-pub expression-returns : goal.expression-returns
-expression-returns t c =
-    let x = c.loop-next.read in
-    let e = (phrase (feed_source c.args.self.now.feed) (arena_nodes c.loop-next.self.arena) x.node).expr in
-    record {
-      told = grew_told c.in_ok-read.ensures c.loop-next.invariant;
-      ends = λ h q. stuck_end x.place (form_of x.form e) e h (coming c.loop-next.self.feed) c.in_default.ensures;
     }
 
 pub expression-returns-in_default-growth_of : goal.expression-returns-in_default-growth_of
@@ -315,57 +305,21 @@ item-returns t c =
     let told = c.in_ok-last.ensures.told in
     item_told c.args.list c.in_ok-last.last c.requires.stored told c.in_ok-last.ensures.ends c.store.ensures.index c.store.ensures.nodes c.store.ensures.limit
 
-pub items-returns-in_err-list-2 : goal.items-returns-in_err-list-2
-items-returns-in_err-list-2 t c =
-    let r = c.loop-self-test.ensures in
-    let a = c.in_ok-list.ensures in
-    let b = c.in_err-list-2.ensures in
-    let p : Passed _ c.loop-self.self.feed c.passes.new.self = record { first = r.told.1; source = r.source } in
-    exit_list c.from_residual-in_err-list-2.result _ c.from_residual-in_err-list-2.ensures.1 (kept_then a.kept (kept_then c.loop-self.invariant.kept (kept_then (kept_passed c.loop-self.self.arena p) b.kept)))
-    (λ k h q. listing_stop a c.loop-self.invariant p b k h q.0)
-
-pub items-loop-self-preserved : goal.items-loop-self-preserved
-items-loop-self-preserved t c =
-    let r = c.loop-self-test.ensures in
-    listing_more c.loop-self.invariant (record { first = r.told.1; source = r.source }) c.in_ok-list-2.ensures
-
-pub items-returns-in_err-take_mark : goal.items-returns-in_err-take_mark
-items-returns-in_err-take_mark t c =
-    let no = c.loop-self-test.ensures in
-    let a = c.in_ok-list.ensures in
-    let b = c.in_err-take_mark.ensures in
-    let m = c.loop-self.self.arena in
-    exit_list c.from_residual-in_err-take_mark.result _ c.from_residual-in_err-take_mark.ensures.1
-    (kept_then a.kept (kept_then c.loop-self.invariant.kept (kept_then (kept_still {f = c.loop-self.self.feed} {g = c.passes.new.self} m no.told.0 no.source) (kept_still {f = c.passes.new.self} {g = c.take_mark.new.self} m b.told.1 b.source))))
-    (λ k h q. ap judged (listing_told a c.loop-self.invariant k h q.0) ∙ unlisted c.args.close k h _ (coming c.loop-self.self.feed) _ q.1 no.told.1 (subst (λ ts. NoMark c.args.close ts c.in_err-take_mark.field-0.0) no.told.0 b.told.0))
-
-pub items-returns : goal.items-returns
-items-returns t c =
-    let no = c.loop-self-test.ensures in
-    let a = c.in_ok-list.ensures in
-    let b = c.in_ok-take_mark.ensures in
-    listing_end {g = c.loop-self.self.feed} {g' = c.passes.new.self} {k = c.take_mark.new.self} c.args.close a c.loop-self.invariant no.told.0 no.told.1 no.source (record { first = b.told.1; source = b.source })
-
-pub listed-returns-then-passes : goal.listed-returns-then-passes
-listed-returns-then-passes t c =
+pub listed-returns-then-passes-clause-told : goal.listed-returns-then-passes-clause-told
+listed-returns-then-passes-clause-told t c =
     let f = c.args.self.now.feed in
     let g = c.advance.new.self in
     let n = c.args.self.now.arena in
     let o : Opened f n g c.store-empty.new.arena c.store-empty.result = opened c.requires.some c.advance.ensures.coming c.advance.ensures.source c.store-empty.ensures.index c.store-empty.ensures.nodes c.store-empty.ensures.limit in
     let r = c.if-passes.ensures in
     let p : Passed (at (tree.mark (mark_of c.args.close)) r.told.0) g c.passes.new.self = record { first = r.told.1; source = r.source } in
-    let long = passed_long p in
-    record { told = listed_empty c.args.close o p; spare = omega (arith, long, o.fewer, o.one) }
+    listed_empty c.args.close o p
 
-pub listed-returns : goal.listed-returns
-listed-returns t c =
+pub listed-returns-clause-told : goal.listed-returns-clause-told
+listed-returns-clause-told t c =
     let f = c.args.self.now.feed in
     let g = c.advance.new.self in
     let n = c.args.self.now.arena in
     let o : Opened f n g c.store-empty.new.arena c.store-empty.result = opened c.requires.some c.advance.ensures.coming c.advance.ensures.source c.store-empty.ensures.index c.store-empty.ensures.nodes c.store-empty.ensures.limit in
     let r = c.if-passes.ensures in
-    let still = ap length r.told.0 in
-    record {
-      told = listed_items {g = g} {g' = c.passes.new.self} c.args.close c.items.result o r.told.0 r.told.1 r.source c.items.ensures;
-      spare = listed_spare (length (arena_nodes n)) (length (coming f)) c.items.result c.items.ensures.kept (omega (arith, still, o.fewer, o.one));
-    }
+    listed_items {g = g} {g' = c.passes.new.self} c.args.close c.items.result o r.told.0 r.told.1 r.source c.items.ensures

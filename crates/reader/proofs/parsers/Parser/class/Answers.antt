@@ -1,5 +1,4 @@
 use Rattle.std.proofs.Common.{◌≡◌, ℕ, List, [], ◌∷◌, ◌++◌, length, Ok, sym, refl, ap, ◌∙◌, arith, length-append}
-use Rattle.std.proofs.lemmas.Bool.{lt-ltb}
 use Rattle.arena.specs.Tables.{arena_limit, arena_nodes}
 use Rattle.arena.specs.Trees.{Phrase, named, phrase}
 use Rattle.arena.specs.declared.arenas.Arena.{Arena}

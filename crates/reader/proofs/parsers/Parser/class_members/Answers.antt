@@ -10,7 +10,7 @@ use Rattle.reader.specs.Classes.{ClassAt, MemberAt}
 use Rattle.reader.specs.Feeds.{coming, feed_source}
 use Rattle.reader.proofs.DefinitionSteps.{members_of}
 use Rattle.reader.proofs.Leading.{Along, along, along_as, along_stored, stopped_behind}
-use Rattle.reader.proofs.Steps.{both_before, kept_long, kept_phrase, kept_still}
+use Rattle.reader.proofs.Steps.{kept_phrase, kept_still}
 use Rattle.reader.proofs.Storing.{kept_then, stored}
 use Rattle.reader.proofs.parsers.Parser.class_members.Goals as goal
 

@@ -16,7 +16,7 @@ use Rattle.reader.specs.declared.items.Item.{Item}
 use Rattle.reader.specs.declared.items.Opening.{Opening}
 use Rattle.reader.proofs.Leading.{Along, stopped_behind}
 use Rattle.reader.proofs.ListSteps.{kept_store, stored_phrase}
-use Rattle.reader.proofs.Steps.{both_before, kept_long, kept_phrase, room_left, room_on}
+use Rattle.reader.proofs.Steps.{kept_long, kept_phrase}
 use Rattle.reader.proofs.Storing.{kept_then, stored}
 use Rattle.reader.proofs.parsers.Parser.declarations.Goals as goal
 

@@ -121,13 +121,13 @@ returns-in-Some c =
       };
     }
 
-pub assignment-requires : goal.assignment-requires
-assignment-requires c =
+pub assignment-requires-clause-empty : goal.assignment-requires-clause-empty
+assignment-requires-clause-empty c =
     let ok = c.in_ok-first.ensures in
     let rest = c.in_default.ensures in
     let st = c.store-none.ensures in
     let a : Fronted c.args.depth.levels c.args.self.now.feed c.args.self.now.arena c.defined_name.new.feed c.store-none.new.arena c.store-none.result c.in_ok-first.first = fronted ok.told ok.ends rest.told.0 rest.source st.index st.nodes st.limit in
-    record { stored = a.read; ends = a.ends; kept = a.stored; empty = a.empty }
+    a.empty
 
 -- the same places, where no colon defines the first expression
 abbrev first_at : {d : ℕ} (r : Read) (h : Feed) (ts : List Token) → coming h ≡ ts → ((e : Expr) (b : Body) → Unsaid b r.place (form_of r.form e) ts) → (e : Expr) → At d

@@ -48,8 +48,8 @@ returns-in_err-declarations c =
     (along (led ok (λ (x : OuterAt c.args.depth.levels). x)) (led typed here)) bad.kept
     (λ x. bad.leads (headed (phrase (feed_source g) (arena_nodes l) c.in_ok-result.result).ann (here x)))
 
-pub store-requires : goal.store-requires
-store-requires c =
+pub store-requires-clause-placed : goal.store-requires-clause-placed
+store-requires-clause-placed c =
     let ok = c.in_ok-name.ensures in
     let typed = c.in_ok-result.ensures in
     let read = c.in_ok-declarations.ensures in
@@ -64,10 +64,7 @@ store-requires c =
     let a = c.in_ok-declarations.field-0 in
     let last : (ltb a.declarations k && ltb a.statements k) ≡ true = both_before third.0 third.1 in
     let three : (ltb j k && (ltb a.declarations k && ltb a.statements k)) ≡ true = ap (λ z. z && (ltb a.declarations k && ltb a.statements k)) (lt-ltb j k (omega (arith, second, more))) ∙ last in
-    record {
-      room = omega (arith, ok.kept.limit, typed.kept.limit, read.kept.limit, ok.leads.spare, typed.leads.spare, read.leads.spare, c.args.self.now.room);
-      placed = ap (λ z. z && (ltb j k && (ltb a.declarations k && ltb a.statements k))) (lt-ltb i k (omega (arith, first, long, more))) ∙ three;
-    }
+    ap (λ z. z && (ltb j k && (ltb a.declarations k && ltb a.statements k))) (lt-ltb i k (omega (arith, first, long, more))) ∙ three
 
 pub returns : goal.returns
 returns c =

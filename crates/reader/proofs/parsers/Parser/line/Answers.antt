@@ -21,12 +21,12 @@ returns-in_err-first c =
     stopped c.from_residual.result _ c.from_residual.ensures.1 bad.kept
     (λ x. ap judged (begins_line (feed_source f) c.args.next (coming f) x.body c.requires.facing c.requires.kind) ∙ bad.goes (line p tree.nil x.body) (line_spot p tree.nil x.body x.deep))
 
-pub assignment-requires : goal.assignment-requires
-assignment-requires c =
+pub assignment-requires-clause-empty : goal.assignment-requires-clause-empty
+assignment-requires-clause-empty c =
     let ok = c.in_ok-first.ensures in
     let st = c.store-none.ensures in
     let a : Fronted c.args.depth.levels c.args.self.now.feed c.args.self.now.arena c.expression.new.self.feed c.store-none.new.arena c.store-none.result c.in_ok-first.first = fronted ok.told ok.ends refl refl st.index st.nodes st.limit in
-    record { stored = a.read; ends = a.ends; kept = a.stored; empty = a.empty }
+    a.empty
 
 -- where no variable may be defined any more, none is
 settled : (b : Body) (p : ℕ) (f : tree.Form) (ts : List Token) → vars tree.nil b p f ≡ [] → Unsaid b p f ts

@@ -5,13 +5,12 @@ use Rattle.grammar.specs.Tree as tree
 use Rattle.grammar.specs.Tree.{at}
 use Rattle.grammar.specs.Reader.{field, have, naming}
 use Rattle.grammar.specs.Limits.{limited}
-use Rattle.grammar.specs.Verdict.{judged}
 use Rattle.reader.specs.Feeds.{coming, feed_source}
 use Rattle.reader.specs.Forms.{form_of}
 use Rattle.reader.specs.Told.{having}
 use Rattle.reader.specs.declared.kinds.Kind.{Kind}
-use Rattle.reader.proofs.Machine.{dots, tight_same, unnamed}
-use Rattle.reader.proofs.Steps.{Passed, exit, faced, kept_passed, kept_still, passed, passed_long, told_made}
+use Rattle.reader.proofs.Machine.{dots, tight_same}
+use Rattle.reader.proofs.Steps.{Passed, faced, kept_passed, passed, passed_long, told_made}
 use Rattle.reader.proofs.Storing.{kept_then}
 use Rattle.reader.proofs.parsers.Parser.member.Goals as goal
 

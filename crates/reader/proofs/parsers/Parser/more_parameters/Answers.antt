@@ -10,7 +10,7 @@ use Rattle.reader.specs.Feeds.{coming, feed_source}
 use Rattle.reader.specs.Functions.{past_param}
 use Rattle.reader.specs.Parameters.{Header}
 use Rattle.reader.proofs.Leading.{Along, told_stored}
-use Rattle.reader.proofs.Steps.{both_before, kept_long, kept_phrase}
+use Rattle.reader.proofs.Steps.{kept_phrase}
 use Rattle.reader.proofs.parsers.Parser.more_parameters.Goals as goal
 
 -- a parameter's type is complete: the list goes on past the parameter

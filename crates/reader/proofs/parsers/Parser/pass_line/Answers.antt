@@ -9,9 +9,8 @@ use Rattle.reader.specs.Feeds.{coming, feed_source}
 use Rattle.reader.specs.Places.{BodyAt}
 use Rattle.reader.specs.declared.kinds.Kind.{Kind}
 use Rattle.reader.specs.declared.kinds.Mark.{Mark}
-use Rattle.reader.proofs.Leading.{along, stepped, stopped_behind, told_stored}
-use Rattle.reader.proofs.Steps.{Passed, faced, kept_still, passed, passed_long}
-use Rattle.reader.proofs.VariableMoves.{no_line_end}
+use Rattle.reader.proofs.Leading.{along, stepped, told_stored}
+use Rattle.reader.proofs.Steps.{Passed, faced, passed, passed_long}
 use Rattle.reader.proofs.parsers.Parser.pass_line.Goals as goal
 
 pub returns : goal.returns

@@ -21,7 +21,7 @@ use Rattle.reader.specs.declared.refusals.Stop.{Stop}
 use Rattle.reader.proofs.BodySteps.{sequel}
 use Rattle.reader.proofs.Leading.{Along, stopped, stopped_behind}
 use Rattle.reader.proofs.ListSteps.{kept_store, stored_phrase}
-use Rattle.reader.proofs.Steps.{both_before, kept_long, kept_phrase, room_left}
+use Rattle.reader.proofs.Steps.{kept_long, kept_phrase}
 use Rattle.reader.proofs.Storing.{kept_then, stays}
 use Rattle.reader.proofs.parsers.Parser.whole_body.Goals as goal
 
@@ -44,9 +44,6 @@ module _ {P : Owner → Type 0} {d j : ℕ} {f g : Feed} {n m : Arena} (k : Aren
             ∙ ap (λ ss. limited 64 (coming g) (start (base (frame_of x.owner (phrase src (arena_nodes m) v.declarations).decls) ss))) first
             ∙ ap (λ (q : Phrase). limited 64 (coming g) (start (base (frame_of x.owner q.decls) (phrase src (arena_nodes k) j).stmts))) (sym declared);
       }
-
-  first_here : j < length (arena_nodes k)
-  first_here = let one = ap length nodes ∙ length-append (arena_nodes m) (Node.MoreStatements e.statements v.statement ∷ []) in omega (arith, one, index)
 
   first_filled : (src : List ℕ) → Filled (phrase src (arena_nodes k) j).stmts
   first_filled src = subst (λ (q : Phrase). Filled q.stmts) (sym (stored_phrase m k (Node.MoreStatements e.statements v.statement) j src index nodes)) tt
@@ -92,18 +89,15 @@ returns-in_err-declarations g c =
     stopped c.from_residual.result _ c.from_residual.ensures.1 bad.kept
     (λ x. ap (λ ds. judged (limited 64 (coming f) (start (base (frame_of x.owner ds) tree.empty)))) (sym (c.requires.empty.none (feed_source f))) ∙ bad.leads x)
 
-pub statements-requires : goal.statements-requires
-statements-requires g c =
+pub statements-requires-clause-some : goal.statements-requires-clause-some
+statements-requires-clause-some g c =
     let k = c.store-first.new.arena in
     let e = c.args.empty in
     let v = c.in_ok-declarations.field-0 in
     let none = c.requires.empty in
     let told = c.in_ok-declarations.ensures in
     let st = c.store-first.ensures in
-    record {
-      stored = first_here k e v none told st.index st.nodes st.limit;
-      some = first_filled k e v none told st.index st.nodes st.limit (feed_source c.declarations.new.self.feed);
-    }
+    first_filled k e v none told st.index st.nodes st.limit (feed_source c.declarations.new.self.feed)
 
 pub returns-in_err-statements : goal.returns-in_err-statements
 returns-in_err-statements g c =
