@@ -1,7 +1,7 @@
 // The nodes of a routine. A child is named by its index in the table, not owned by a box: the memory is fixed, and none is
 // taken while a source is read.
 
-// A stretch of the source: a name.
+// A stretch of the source: a name. By place and length, since the table outlives the bytes that it was read from.
 #[derive(Clone, Copy)]
 pub struct Stretch {
     pub at: usize,

@@ -48,7 +48,8 @@ impl Parser<'_, '_> {
         self.variable(name, Depth::IN_CLASS)
     }
 
-    // The members after those of a list, to the end of the class.
+    // The members after those of a list, to the end of the class. Statements have a loop like this one: a loop for both would take
+    // what reads a member as a closure, which would need the parser that the loop has.
     fn class_members(&mut self, none: usize) -> Result<usize, Stop>
         requires stored { none < length (arena_nodes self.old.arena) }
         ensures { Between (MembersTold none) self.old self.new result }

@@ -28,7 +28,8 @@ pub enum Form {
     Prefix(PrefixOperator),
 }
 
-// An expression that was read: the place of its first token, its form and its node.
+// An expression that was read: the place of its first token, its form and its node. That a node is in the table is a fact
+// about both, which no type of a node could have: the functions that take one ask for it.
 #[derive(Clone, Copy)]
 pub struct Read {
     pub place: usize,

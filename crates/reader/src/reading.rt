@@ -23,7 +23,7 @@ const LONGEST_SOURCE: usize = 4_096;
 // How many nodes the longest source has at most.
 const MOST_NODES: usize = 4 * (3 * LONGEST_SOURCE + 2) + 2;
 
-// The refusal of a token; the tokens of a source do not end too soon.
+// The refusal of a token; the tokens of a source do not end too soon. Not a `From`, which could not ask for that.
 fn refusal_of(stop: Stop) -> Refusal
     requires { stop_of stop ≢ incomplete }
     ensures { refusal_verdict result ≡ stop_of stop }

@@ -70,7 +70,8 @@ pub(crate) fn is_mark(next: Next, mark: Mark) -> bool
 }
 
 impl Feed<'_, '_> {
-    // Takes a mark that must come.
+    // Takes a mark that must come. Here and below, that the source is the same is an equation of two feeds, which a type of one
+    // could not have.
     pub(crate) fn take_mark(&mut self, mark: Mark) -> Result<(), Stop>
         ensures told { MarkTold mark (coming self.old) (coming self.new) result }
         ensures source { feed_source self.new ≡ feed_source self.old }
