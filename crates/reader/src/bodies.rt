@@ -34,9 +34,7 @@ impl Parser<'_, '_> {
     fn body_item<S: Scope>(&mut self, depth: Depth) -> Result<Item, Stop>
         ensures { Between (ItemTold S.Scope.owns depth.levels) self.old self.new result }
     {
-        let Some(next) = self.feed.next() else {
-            return Err(Stop::Unfinished);
-        };
+        let next = self.feed.next().ok_or(Stop::Unfinished)?;
         match next.kind {
             Kind::Mark(mark) => S::marked_item(self, next, mark, depth),
             Kind::Name(_)

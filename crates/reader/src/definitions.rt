@@ -26,9 +26,7 @@ impl Feed<'_, '_> {
         ensures told { LiteralTold (feed_source self.old) (coming self.old) (coming self.new) result }
         ensures source { feed_source self.new ≡ feed_source self.old }
     {
-        let Some(next) = self.next() else {
-            return Err(Stop::Unfinished);
-        };
+        let next = self.next().ok_or(Stop::Unfinished)?;
         let place = next.place;
         match next.kind {
             Kind::Constant(constant) => {

@@ -58,10 +58,8 @@ impl Parser<'_, '_> {
     fn operand(&mut self, asks: usize, depth: Depth) -> Result<Read, Stop>
         ensures { Between (Told (Spot asks depth.levels) want) self.old self.new result }
     {
-        match self.feed.next() {
-            Some(next) => self.begun(next, asks, depth),
-            None => Err(Stop::Unfinished),
-        }
+        let next = self.feed.next().ok_or(Stop::Unfinished)?;
+        self.begun(next, asks, depth)
     }
 
     // The operand that begins with the token here.

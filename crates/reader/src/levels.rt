@@ -37,9 +37,7 @@ impl Feed<'_, '_> {
         ensures told { IndentTold depth.levels self.old self.new result }
         ensures deeper { IfOk result (λ e. e.levels ≡ depth.levels + 1) }
     {
-        let Some(next) = self.next() else {
-            return Err(Stop::Unfinished);
-        };
+        let next = self.next().ok_or(Stop::Unfinished)?;
         if !is_mark(next, Mark::Indent) {
             return Err(stop_at(next));
         }
@@ -62,9 +60,7 @@ impl Feed<'_, '_> {
         ensures told { RoundTold depth.levels self.old self.new result }
         ensures deeper { IfOk result (λ e. e.levels ≡ depth.levels + 1) }
     {
-        let Some(next) = self.next() else {
-            return Err(Stop::Unfinished);
-        };
+        let next = self.next().ok_or(Stop::Unfinished)?;
         if !matches!(next.kind, Kind::LeftRound) {
             return Err(stop_at(next));
         }

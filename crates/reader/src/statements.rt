@@ -28,9 +28,7 @@ impl Parser<'_, '_> {
     pub(crate) fn statement(&mut self, depth: Depth) -> Result<usize, Stop>
         ensures { Between (StatementTold depth.levels) self.old self.new result }
     {
-        let Some(next) = self.feed.next() else {
-            return Err(Stop::Unfinished);
-        };
+        let next = self.feed.next().ok_or(Stop::Unfinished)?;
         match next.kind {
             Kind::Mark(mark) => self.worded(next, mark, depth),
             Kind::Name(_)

@@ -76,9 +76,7 @@ impl Feed<'_, '_> {
         ensures told { MarkTold mark (coming self.old) (coming self.new) result }
         ensures source { feed_source self.new ≡ feed_source self.old }
     {
-        let Some(next) = self.next() else {
-            return Err(Stop::Unfinished);
-        };
+        let next = self.next().ok_or(Stop::Unfinished)?;
         if is_mark(next, mark) {
             self.advance();
             Ok(())
@@ -92,9 +90,7 @@ impl Feed<'_, '_> {
         ensures told { NameTold (feed_source self.old) (coming self.old) (coming self.new) result }
         ensures source { feed_source self.new ≡ feed_source self.old }
     {
-        let Some(next) = self.next() else {
-            return Err(Stop::Unfinished);
-        };
+        let next = self.next().ok_or(Stop::Unfinished)?;
         let Kind::Name(len) = next.kind else {
             return Err(stop_at(next));
         };

@@ -21,9 +21,7 @@ impl Parser<'_, '_> {
         ensures kept { Kept self.old.feed self.old.arena self.new.feed self.new.arena }
         ensures tells { TypeTells (feed_source self.old.feed) (arena_nodes self.new.arena) depth.levels (coming self.old.feed) (coming self.new.feed) result }
     {
-        let Some(next) = self.feed.next() else {
-            return Err(Stop::Unfinished);
-        };
+        let next = self.feed.next().ok_or(Stop::Unfinished)?;
         match next.kind {
             Kind::Name(len) => {
                 let name = Stretch {

@@ -7,7 +7,7 @@ use Rattle.std.proofs.lemmas.Result.{err_from_is_err_and}
 use Rattle.grammar.specs.Reader.{of_item, typed, typing}
 use Rattle.grammar.specs.Limits.{limited}
 use Rattle.grammar.specs.Verdict.{judged}
-use Rattle.reader.specs.Feeds.{coming, feed_source}
+use Rattle.reader.specs.Feeds.{NextTold, coming, feed_source}
 use Rattle.reader.specs.Kinds.{kind_model, next_token}
 use Rattle.reader.specs.Types.{SlotAt, TypeTells}
 use Rattle.reader.specs.declared.kinds.Kind.TheVariants.{LeftSquare}
@@ -20,8 +20,8 @@ pub annotation-returns-in-Name-clause-tells : goal.annotation-returns-in-Name-cl
 annotation-returns-in-Name-clause-tells t c =
     let f = c.args.self.now.feed in
     let src = feed_source f in
-    let n = c.in-Some.next in
-    let told = c.in-Some.ensures in
+    let n = c.in_ok-next.next in
+    let told = subst (NextTold src (coming f)) c.in_ok-next.ensures.ok_part c.next.ensures in
     let adv = c.advance.ensures in
     let st = c.store.ensures in
     let k = stored src (arena_nodes c.args.self.now.arena) (arena_nodes c.store.new.arena) _ c.store.result st.index st.nodes in (
@@ -35,8 +35,8 @@ pub annotation-returns-in-Text-clause-tells : goal.annotation-returns-in-Text-cl
 annotation-returns-in-Text-clause-tells t c =
     let f = c.args.self.now.feed in
     let src = feed_source f in
-    let n = c.in-Some.next in
-    let told = c.in-Some.ensures in
+    let n = c.in_ok-next.next in
+    let told = subst (NextTold src (coming f)) c.in_ok-next.ensures.ok_part c.next.ensures in
     let adv = c.advance-in-Text.ensures in
     let st = c.store-in-Text.ensures in
     let k = stored src (arena_nodes c.args.self.now.arena) (arena_nodes c.store-in-Text.new.arena) _ c.store-in-Text.result st.index st.nodes in (
