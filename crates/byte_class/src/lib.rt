@@ -272,7 +272,7 @@ const CLASSES: &[Class; 256] = &[
 fn entry(b: u8) -> Class
     ensures { result ≡ slice_index_or classes b Blank }
 {
-    CLASSES[b as usize]
+    CLASSES[usize::from(b)]
 }
 
 pub fn class_of(b: u8) -> Class

@@ -5,7 +5,7 @@ use print_buffer::buffers::PrintBuffer;
 use source_check::checking::check_source;
 use std::io::{Read, Write};
 
-// `trace_lines` has the same three steps round another function; one function for both would have to ask that its argument may be called.
+// `trace_lines` has the same steps round another function: one for both would be a crate with a trait, and an impl of it here, for these.
 fn run(rt: &HostRuntime) -> anyhow::Result<()> {
     let mut input = Vec::new(rt.alloc());
     rt.stdin().read_to_end(&mut input)?;

@@ -1,6 +1,5 @@
 // Copying between any two hosts.
 ghost use Rattle.std.specs.Prelude.{◌≡◌, ◌^◌, ◌<◌, true, is_ok};
-ghost use Rattle.host.specs.Meaning.{Meaning};
 ghost use Rattle.copying.specs.Copies.{Moved, copied, copied_one};
 
 use crate::answers::{Copied, Ending};
@@ -32,7 +31,7 @@ pub fn copy_lines<A: Host, B: Host>(from: &mut A, to: &mut B) -> Copied
     ensures moved { Moved (A.Host.meaning from.old) (B.Host.meaning to.old) result (A.Host.meaning from.new) (B.Host.meaning to.new) }
 {
     let mut count = 0;
-    // a loop: a chain that counts the lines would lose why the last call refused
+    // a loop, since a chain would have an end that never comes, for lines that never run out
     loop {
         match copy_one(from, to) {
             Ok(()) => count += 1,

@@ -5,7 +5,7 @@ use crate::hosts::Host;
 use crate::refusals::Refusal;
 
 // One of two hosts; nested, one of any number. An enum, since a boxed `dyn Host` would need the heap and could not be
-// handed out with its promises.
+// handed out with its promises. Each call goes to the host that is there: the arms say of four calls what a `dyn` would.
 #[derive(Drop)]
 pub enum EitherHost<A, B> {
     First(A),

@@ -22,7 +22,8 @@ fn widen(b: u8, column: usize) -> usize
     }
 }
 
-// The spot past one blank, comment or line end, or nothing at a token or the end.
+// The spot past one blank, comment or line end, or nothing at a token or the end. That a spot is narrow is asked here and of the
+// steps: the rules of tokens build spots of any width, so the type of a spot does not say it.
 fn step_gap(source: Source<'_>, spot: Spot) -> Option<Spot>
     requires { Narrow spot }
     ensures { Passed source.entry.bytes.now spot result }

@@ -18,7 +18,7 @@ fn with_digit(value: u32, d: u8) -> Option<u32>
     let value = value
         .checked_mul(10)?
         .checked_add(u32::from(d.saturating_sub(b'0')))?;
-    if value <= LIMIT { Some(value) } else { None }
+    (value <= LIMIT).then_some(value)
 }
 
 // The value of a run of digits, if it is at most 2147483647 and has no leading zero.

@@ -1,5 +1,5 @@
 // Reading the body of a function, or of the program: declarations, and then statements.
-ghost use Rattle.std.specs.Prelude.{◌≡◌, ◌+◌, ◌<◌, ◌≤◌, length};
+ghost use Rattle.std.specs.Prelude.{◌+◌, ◌<◌, ◌≤◌, length};
 ghost use Rattle.arena.specs.Tables.{arena_limit, arena_nodes};
 ghost use Rattle.reader.specs.Bodies.{BodyTold, Emptied, EmptyBody, FunctionBodyTold, ItemTold, OpeningTold};
 ghost use Rattle.reader.specs.Parsers.{Between};
@@ -30,7 +30,7 @@ pub(crate) fn empty_body(arena: &mut Arena) -> Routine
 }
 
 impl Parser<'_, '_> {
-    // A declaration, or the first statement of a body.
+    // A declaration, or the first statement of a body. Like `statement`, but for what a mark and a line may be here.
     fn body_item<S: Scope>(&mut self, depth: Depth) -> Result<Item, Stop>
         ensures { Between (ItemTold S.Scope.owns depth.levels) self.old self.new result }
     {

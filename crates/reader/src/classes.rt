@@ -1,5 +1,5 @@
 // Reading classes.
-ghost use Rattle.std.specs.Prelude.{◌≡◌, ◌<◌, length};
+ghost use Rattle.std.specs.Prelude.{◌<◌, length};
 ghost use Rattle.arena.specs.Tables.{arena_nodes};
 ghost use Rattle.reader.specs.Classes.{ClassTold, MemberTold, MembersTold, NamesTold};
 ghost use Rattle.reader.specs.Feeds.{coming};
@@ -48,8 +48,8 @@ impl Parser<'_, '_> {
         self.variable(name, Depth::IN_CLASS)
     }
 
-    // The members after those of a list, to the end of the class. Statements have a loop like this one: a loop for both would take
-    // what reads a member as a closure, which would need the parser that the loop has.
+    // The members after those of a list, to the end of the class. Statements have a loop like this one: a loop for both would be
+    // generic in what reads an element, which node is stored, and what the contract says of both.
     fn class_members(&mut self, none: usize) -> Result<usize, Stop>
         requires stored { none < length (arena_nodes self.old.arena) }
         ensures { Between (MembersTold none) self.old self.new result }

@@ -1,7 +1,7 @@
 // Reading an expression: an operand, and a loop that grows it.
 ghost use Rattle.std.specs.Prelude.{◌≡◌, ◌+◌, ◌*◌, ◌<◌, ◌≤◌, true, length, drop, Some, OnOk, nat_le};
 ghost use Rattle.arena.specs.Order.{before};
-ghost use Rattle.arena.specs.Tables.{arena_limit, arena_nodes};
+ghost use Rattle.arena.specs.Tables.{arena_nodes};
 ghost use Rattle.arena.specs.Trees.{binary_of, phrase};
 ghost use Rattle.grammar.specs.Tree as tree;
 ghost use Rattle.grammar.specs.Limits.{limited};
@@ -37,7 +37,8 @@ impl Parser<'_, '_> {
         made(&mut self.arena, place, form, node)
     }
 
-    // An expression that is at least as tight as `asks`, where `depth` levels are open.
+    // An expression that is at least as tight as `asks`, where `depth` levels are open. The two stay apart: most phrases have a
+    // depth alone, and an operand asks anew at the same depth.
     #[cycle(begun_binary_call_display_expression_group_grown_index_item_items_listed_operand_prefix)]
     pub(crate) fn expression(&mut self, asks: usize, depth: Depth) -> Result<Read, Stop>
         ensures told { Between (Told (Spot asks depth.levels) want) self.old self.new result }
@@ -305,7 +306,8 @@ impl Parser<'_, '_> {
         self.items(empty, close, inner)
     }
 
-    // One expression or more, and the mark that closes their list.
+    // One expression or more, and the mark that closes their list. Parameters have a loop like this one, and why it is another
+    // stands there.
     #[cycle(begun_binary_call_display_expression_group_grown_index_item_items_listed_operand_prefix)]
     fn items(&mut self, empty: usize, close: Mark, depth: Depth) -> Result<usize, Stop>
         requires stored { empty < length (arena_nodes self.old.arena) }

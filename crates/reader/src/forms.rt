@@ -28,8 +28,8 @@ pub enum Form {
     Prefix(PrefixOperator),
 }
 
-// An expression that was read: the place of its first token, its form and its node. That a node is in the table is a fact
-// about both, which no type of a node could have: the functions that take one ask for it.
+// An expression that was read: the place of its first token, its form and its node. That a node is in the table, here
+// or by its index alone, is a fact about both, which no type of a node could have: the functions that take one ask for it.
 #[derive(Clone, Copy)]
 pub struct Read {
     pub place: usize,
@@ -78,7 +78,7 @@ impl Rank {
 }
 
 impl Form {
-    // How tightly the expression holds.
+    // How tightly the expression holds: a number from 1 to 8, as the grammar has it, which is only compared.
     pub(crate) fn tight(self) -> usize
         ensures { result ≡ tight_of self }
     {

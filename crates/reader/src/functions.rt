@@ -1,7 +1,5 @@
 // Reading the definition of a function.
-ghost use Rattle.std.specs.Prelude.{◌≡◌, ◌≤◌};
 ghost use Rattle.reader.specs.Functions.{FunctionTold, GlobalTold, HeadingTold, ResultTold};
-ghost use Rattle.reader.specs.Bodies.{FunctionBodyTold};
 ghost use Rattle.reader.specs.Parsers.{Between};
 
 use crate::answers::Routine;

@@ -1,5 +1,5 @@
 // What a body begins with: declarations, up to its first statement.
-ghost use Rattle.std.specs.Prelude.{◌≡◌, ◌≤◌, Some};
+ghost use Rattle.std.specs.Prelude.{◌≡◌, Some};
 ghost use Rattle.reader.specs.Bodies.{ItemTold};
 ghost use Rattle.reader.specs.Defining.{DefinedTold};
 ghost use Rattle.reader.specs.Feeds.{NextTold, coming, feed_source};

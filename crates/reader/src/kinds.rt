@@ -38,7 +38,7 @@ pub enum Mark {
     Unused,
 }
 
-// A constant that is no string: of a string a token tells the length alone, so a `Literal` would be too much here.
+// A constant that is no string. `Literal` has these cases by themselves and not as one, since the tree's literal has them so.
 #[derive(Clone, Copy)]
 pub enum Constant {
     None,

@@ -55,7 +55,8 @@ impl Feed<'_, '_> {
         self.take_indent(depth)
     }
 
-    // Takes a parenthesis that must come, which opens a level.
+    // Takes a parenthesis that must come, which opens a level: a function beside that of an INDENT, since a parenthesis is no mark,
+    // and the states before the two are others.
     pub(crate) fn take_round(&mut self, depth: Depth) -> Result<Depth, Stop>
         ensures told { RoundTold depth.levels self.old self.new result }
         ensures deeper { IfOk result (λ e. e.levels ≡ depth.levels + 1) }

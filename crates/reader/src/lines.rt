@@ -1,5 +1,5 @@
 // Reading the statements of one line.
-ghost use Rattle.std.specs.Prelude.{◌≡◌, ◌<◌, ◌≤◌, true, length, Some, Ok};
+ghost use Rattle.std.specs.Prelude.{◌≡◌, ◌<◌, length, Some, Ok};
 ghost use Rattle.arena.specs.Tables.{arena_nodes};
 ghost use Rattle.arena.specs.Trees.{phrase};
 ghost use Rattle.grammar.specs.Tree as tree;

@@ -1,5 +1,5 @@
 // What goes on with an expression, and expressions as they are stored.
-ghost use Rattle.std.specs.Prelude.{◌≡◌, ℕ, ◌<◌, true, ◌&&◌, List, length, if◌then◌else◌, Some, None, nat_le};
+ghost use Rattle.std.specs.Prelude.{◌≡◌, ℕ, ◌<◌, true, ◌&&◌, List, length, None, nat_le};
 ghost use Rattle.arena.specs.Order.{before};
 ghost use Rattle.arena.specs.Trees.{binary_of, literal_of};
 ghost use Rattle.grammar.specs.Tree as tree;

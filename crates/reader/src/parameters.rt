@@ -1,5 +1,5 @@
 // Reading the parameters of a function.
-ghost use Rattle.std.specs.Prelude.{◌≡◌, ◌+◌, ◌*◌, ◌<◌, ◌≤◌, length, OnOk};
+ghost use Rattle.std.specs.Prelude.{◌+◌, ◌*◌, ◌<◌, ◌≤◌, length, OnOk};
 ghost use Rattle.arena.specs.Tables.{arena_nodes};
 ghost use Rattle.reader.specs.Functions.{MoreParametersTold, ParametersTold, SomeParametersTold};
 ghost use Rattle.reader.specs.Feeds.{coming, feed_source};
@@ -51,7 +51,7 @@ impl Parser<'_, '_> {
     }
 
     // One parameter or more, and the parenthesis that closes their list. Lists of expressions have a loop like this one: a loop
-    // for both would take what reads an element as a closure, which would need the parser that the loop has.
+    // for both would be generic in what reads an element, which node is stored, and what the contract says of both.
     fn some_parameters(&mut self, empty: usize, depth: Depth) -> Result<usize, Stop>
         requires stored { empty < length (arena_nodes self.old.arena) }
         ensures { Between (SomeParametersTold depth.levels empty) self.old self.new result }

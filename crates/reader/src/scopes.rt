@@ -1,5 +1,5 @@
 // Whose body it is that is read: what its declarations are, and what ends it.
-ghost use Rattle.std.specs.Prelude.{◌≡◌, ◌≤◌, Some};
+ghost use Rattle.std.specs.Prelude.{◌≡◌, Some};
 ghost use Rattle.reader.specs.Bodies.{ItemTold};
 ghost use Rattle.reader.specs.Feeds.{NextTold, coming, feed_source};
 ghost use Rattle.reader.specs.Kinds.{mark_of};

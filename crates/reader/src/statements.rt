@@ -1,5 +1,5 @@
 // Reading statements and blocks.
-ghost use Rattle.std.specs.Prelude.{◌≡◌, ◌<◌, ◌≤◌, length, Some, OnOk};
+ghost use Rattle.std.specs.Prelude.{◌≡◌, ◌<◌, length, Some, OnOk};
 ghost use Rattle.arena.specs.Tables.{arena_nodes};
 ghost use Rattle.arena.specs.Trees.{phrase};
 ghost use Rattle.grammar.specs.Tree as tree;
@@ -191,7 +191,8 @@ impl Parser<'_, '_> {
         self.statements(first, Mark::Dedent, inner)
     }
 
-    // The statements after those of a list that is not empty, to the mark that ends them.
+    // The statements after those of a list that is not empty, to the mark that ends them. Members of a class have a loop like this
+    // one, and why it is another stands there.
     #[cycle(arm_block_elifs_for_statement_guarded_block_if_statement_otherwise_statement_statements_while_statement_worded)]
     pub(crate) fn statements(
         &mut self,

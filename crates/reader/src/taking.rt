@@ -1,5 +1,5 @@
 // Taking what must come, and storing nodes.
-ghost use Rattle.std.specs.Prelude.{◌≡◌, ℕ, ◌<◌, ◌≤◌, true, List, [], ◌∷◌, ◌++◌, length, OnOk, IsTrue, ◌↔◌};
+ghost use Rattle.std.specs.Prelude.{◌≡◌, ℕ, ◌<◌, true, List, [], ◌∷◌, ◌++◌, length, IsTrue, ◌↔◌};
 ghost use Rattle.arena.specs.Order.{before};
 ghost use Rattle.arena.specs.Tables.{arena_limit, arena_nodes};
 ghost use Rattle.grammar.specs.Verdict.{refused};

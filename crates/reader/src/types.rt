@@ -1,9 +1,8 @@
 // Reading annotations.
-ghost use Rattle.std.specs.Prelude.{◌≡◌, ◌≤◌, ◌∷◌, drop};
+ghost use Rattle.std.specs.Prelude.{◌≡◌, Some};
 ghost use Rattle.arena.specs.Tables.{arena_nodes};
-ghost use Rattle.reader.specs.Feeds.{coming, feed_source};
+ghost use Rattle.reader.specs.Feeds.{NextTold, coming, feed_source};
 ghost use Rattle.reader.specs.Keeping.{Kept};
-ghost use Rattle.reader.specs.Kinds.{next_token};
 ghost use Rattle.reader.specs.Types.{TypeTells};
 ghost use Rattle.reader.specs.declared.kinds.Kind.TheVariants.{LeftSquare};
 
@@ -53,7 +52,7 @@ impl Parser<'_, '_> {
     // Reads a list type, whose bracket comes next.
     #[cycle(annotation_list_type)]
     fn list_type(&mut self, next: Next, depth: Depth) -> Result<usize, Stop>
-        requires ahead { coming self.old.feed ≡ next_token (feed_source self.old.feed) next ∷ drop 1 (coming self.old.feed) }
+        requires facing { NextTold (feed_source self.old.feed) (coming self.old.feed) (Some next) }
         requires bracket { next.kind ≡ LeftSquare }
         ensures kept { Kept self.old.feed self.old.arena self.new.feed self.new.arena }
         ensures tells { TypeTells (feed_source self.old.feed) (arena_nodes self.new.arena) depth.levels (coming self.old.feed) (coming self.new.feed) result }

@@ -1,7 +1,6 @@
 // From the bytes of a source to the line that tells the verdict on it.
 ghost use Rattle.std.specs.Prelude.{◌≡◌, IfOk};
 ghost use Rattle.print_buffer.specs.Buffers.{buffer_bytes};
-ghost use Rattle.reader.specs.Answers.{AnswerHolds};
 ghost use Rattle.source_check.specs.Lines.{verdict_line};
 
 use number_output::appending::{LONGEST_PAIR, append_pair};

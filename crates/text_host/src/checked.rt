@@ -18,10 +18,6 @@ impl Format for Text {
     ghost flaw = { text_flaw };
 
     fn flaw_of(bytes: &[u8]) -> Option<TextFlaw> {
-        if has_short_lines(bytes) {
-            None
-        } else {
-            Some(TextFlaw::LongLine)
-        }
+        (!has_short_lines(bytes)).then_some(TextFlaw::LongLine)
     }
 }

@@ -5,7 +5,7 @@ use print_buffer::buffers::PrintBuffer;
 use std::io::{Read, Write};
 use trace_listing::listings::list_trace;
 
-// `check_routine` has the same three steps round another function; one function for both would have to ask that its argument may be called.
+// `check_routine` has the same steps round another function: one for both would be a crate with a trait, and an impl of it here, for these.
 fn run(rt: &HostRuntime) -> anyhow::Result<()> {
     let mut input = Vec::new(rt.alloc());
     rt.stdin().read_to_end(&mut input)?;

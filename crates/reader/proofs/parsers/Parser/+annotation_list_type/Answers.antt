@@ -69,7 +69,7 @@ list_type-returns-in_err-element-clause-tells t c =
     let told = c.in_err-element.ensures in
     let p = err_from_is_err_and c.from_residual-in_err-element.result c.from_residual-in_err-element.ensures.1 in
     subst (TypeTells src (arena_nodes c.annotation.new.self.arena) d (coming f) (coming c.annotation.new.self.feed)) (sym (p.1 ∙ ap Err p.2))
-    (λ x. ap judged (inner src n d (coming f) (coming g) c.requires.ahead c.requires.bracket adv.coming (omega (arith, deeper, most)) x) ∙ told.tells (item_slot n.place deeper x))
+    (λ x. ap judged (inner src n d (coming f) (coming g) c.requires.facing c.requires.bracket adv.coming (omega (arith, deeper, most)) x) ∙ told.tells (item_slot n.place deeper x))
 
 -- an element that was read, in the terms of the source at the start
 element_read : (src src' : List ℕ) (ns : List Node) (i p : ℕ) {d e : ℕ} (ts us : List Token) → src' ≡ src → e ≡ d + 1 → TypeTells src' ns e ts us (Ok i) → (x : SlotAt d) → limited 64 ts (typing (of_item p x.slot)) ≡ limited 64 us (typed (phrase src ns i).ann (of_item p x.slot))
@@ -93,7 +93,7 @@ list_type-returns-in_err-take_mark-clause-tells t c =
     let p = err_from_is_err_and c.from_residual-in_err-take_mark.result c.from_residual-in_err-take_mark.ensures.1 in
     subst (TypeTells src ns d (coming f) (coming c.take_mark.new.self)) (sym (p.1 ∙ ap Err p.2))
     (λ x.
-    ap judged (inner src n d (coming f) (coming g) c.requires.ahead c.requires.bracket adv.coming (omega (arith, deeper, most)) x
+    ap judged (inner src n d (coming f) (coming g) c.requires.facing c.requires.bracket adv.coming (omega (arith, deeper, most)) x
     ∙ element_read src (feed_source g) ns i n.place (coming g) (coming h) adv.source deeper ok.tells x)
     ∙ no_item_end (phrase src ns i).ann n.place x.slot (coming h) c.in_err-take_mark.field-0.0 bad.told.0)
 
@@ -116,7 +116,7 @@ list_type-returns-clause-tells t c =
     let k = stored src ns (arena_nodes c.store.new.arena) _ c.store.result st.index st.nodes in (
       k.here,
       (λ x.
-          inner src n d (coming f) (coming g) c.requires.ahead c.requires.bracket adv.coming (omega (arith, deeper, most)) x
+          inner src n d (coming f) (coming g) c.requires.facing c.requires.bracket adv.coming (omega (arith, deeper, most)) x
           ∙ element_read src (feed_source g) ns i n.place (coming g) (coming h) adv.source deeper ok.tells x
           ∙ ap (λ ts. limited 64 ts (typed (phrase src ns i).ann (of_item n.place x.slot))) closed.told.1
           ∙ ap (λ (q : Phrase). limited 64 (coming c.take_mark.new.self) (typed q.ann x.slot)) (sym k.stands)),
