@@ -4,7 +4,8 @@ ghost use Rattle.arena.specs.Order.{ordered};
 
 use crate::nodes::Node;
 
-// Nodes, at most `limit` of them, each after its children; all memory is taken when the table is made.
+// Nodes, at most `limit` of them, each after its children; all memory is taken when the table is made. What it shares with a
+// print buffer is two fields and how they are made: a type for those would hand on each call of a `Vec`.
 #[derive(Drop)]
 pub struct Arena {
     pub(crate) nodes: Vec<Node>,

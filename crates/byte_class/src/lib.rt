@@ -8,7 +8,7 @@ ghost use Rattle.lexis.specs.declared.bytes.Class.TheVariants.{Blank};
 
 use lexis::bytes::Class;
 
-// Written out: the value of a constant calls no function. Behind a reference, it lies in memory once.
+// A table, for one look at each byte. Written out: the value of a constant calls no function. Behind a reference, it lies in memory once.
 const CLASSES: &[Class; 256] = &[
     Class::Other,
     Class::Other,

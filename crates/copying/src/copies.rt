@@ -31,7 +31,7 @@ pub fn copy_lines<A: Host, B: Host>(from: &mut A, to: &mut B) -> Copied
     ensures moved { Moved (A.Host.meaning from.old) (B.Host.meaning to.old) result (A.Host.meaning from.new) (B.Host.meaning to.new) }
 {
     let mut count = 0;
-    // a loop, since a chain would have an end that never comes, for lines that never run out
+    // a loop: an endless chain with `try_fold` would also have an `Ok` answer, which never comes
     loop {
         match copy_one(from, to) {
             Ok(()) => count += 1,

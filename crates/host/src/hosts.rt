@@ -11,7 +11,7 @@ pub trait Host {
     ghost meaning: { Self → Meaning };
 
     // The length of the first line waiting, if one waits. Each waiting line has at most 255 bytes: the promise stands
-    // on this call and not in a law, so that a host may borrow what it works on.
+    // on this call and not in a law, which could not read that a host's text was checked.
     fn waits(&self) -> Option<usize>
         ensures first { result ≡ first_length (meaning self.now).lines }
         ensures bounded { Bounded (meaning self.now).lines };

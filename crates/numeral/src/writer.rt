@@ -12,7 +12,7 @@ const LARGEST: u32 = 2_147_483_648;
 pub const LONGEST_NUMERAL: usize = 10;
 
 // Writes the numeral of `n` at the front of `place`, and tells how many digits it has; the rest of the place is
-// as it was, and all of it where the call refuses.
+// as it was, and all of it where the call refuses. The place is the caller's, since nothing is allocated here.
 #[tactic(auto, using(crate::proofs::NumeralFacts::numeral_standard))]
 pub fn write_numeral(n: u32, place: &mut [u8]) -> Result<usize, NumeralError>
     ensures result { result ≡ (written n place.old).result }

@@ -30,7 +30,8 @@ pub(crate) fn empty_body(arena: &mut Arena) -> Routine
 }
 
 impl Parser<'_, '_> {
-    // A declaration, or the first statement of a body. Like `statement`, but for what a mark and a line may be here.
+    // A declaration, or the first statement of a body. Like `statement`, but for what a mark and a line may be here,
+    // and for the states that the contracts name.
     fn body_item<S: Scope>(&mut self, depth: Depth) -> Result<Item, Stop>
         ensures { Between (ItemTold S.Scope.owns depth.levels) self.old self.new result }
     {

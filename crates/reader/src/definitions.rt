@@ -21,7 +21,7 @@ pub(crate) struct PlacedLiteral {
 }
 
 impl Feed<'_, '_> {
-    // Takes a literal that must come.
+    // Takes a literal that must come: the kinds that an expression stores as constants, here without a node.
     fn take_literal(&mut self) -> Result<PlacedLiteral, Stop>
         ensures told { LiteralTold (feed_source self.old) (coming self.old) (coming self.new) result }
         ensures source { feed_source self.new ≡ feed_source self.old }

@@ -24,6 +24,8 @@ use crate::refusals::Stop;
 use crate::taking::{stop_at, store};
 use arena::nodes::{BinaryOperator, Literal, Node, PrefixOperator, Quotation, Stretch};
 
+// Some of these take the same steps to another node (an expression or a list between two brackets). The states that their
+// contracts name differ, and a function for two would take those as ghost members of a trait.
 impl Parser<'_, '_> {
     // Takes the token here, which is an expression by itself.
     fn leaf(&mut self, place: usize, form: Form, node: Node) -> Read

@@ -78,7 +78,8 @@ impl Rank {
 }
 
 impl Form {
-    // How tightly the expression holds: a number from 1 to 8, as the grammar has it, which is only compared.
+    // How tightly the expression holds: a number from 1 to 8, as the grammar has it, since the right operand asks for one more
+    // than its operator's, which an enum could not add.
     pub(crate) fn tight(self) -> usize
         ensures { result ≡ tight_of self }
     {

@@ -49,7 +49,8 @@ fn defined_name(feed: &mut Feed<'_, '_>, arena: &Arena, read: Read) -> Option<St
 }
 
 impl Parser<'_, '_> {
-    // A line of a body without statements so far, which begins with an expression, whose first token is here.
+    // A line of a body without statements so far, which begins with an expression, whose first token is here. It ends like `line`,
+    // where no colon makes it a definition.
     pub(crate) fn first_line(&mut self, next: Next, depth: Depth) -> Result<Item, Stop>
         requires facing { NextTold (feed_source self.old.feed) (coming self.old.feed) (Some next) }
         requires kind { NoWord next.kind }

@@ -38,7 +38,7 @@ pub enum Mark {
     Unused,
 }
 
-// A constant that is no string. `Literal` has these cases by themselves and not as one, since the tree's literal has them so.
+// A constant that is no string. `Literal` has these cases by themselves and not as one: it is public, and they stay.
 #[derive(Clone, Copy)]
 pub enum Constant {
     None,

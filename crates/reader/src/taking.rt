@@ -17,7 +17,7 @@ use crate::refusals::Stop;
 use arena::arenas::Arena;
 use arena::nodes::{Node, Stretch};
 
-// Stores a node that has room and stands after its children.
+// Stores a node that has room and stands after its children: facts of the node and the table, which a type of one could not have.
 pub(crate) fn store(arena: &mut Arena, node: Node) -> usize
     requires room { length (arena_nodes arena.old) < arena_limit arena.old }
     requires placed { before (length (arena_nodes arena.old)) node ≡ true }

@@ -20,6 +20,7 @@ pub fn check_source(heap: Global, input: &[u8]) -> Result<PrintBuffer, AllocErro
     match reader.read(input) {
         Ok(_) => append_pair(&mut out, 0, 0).unwrap(),
         Err(Refusal { reason, place }) => {
+            // a place is at most the length of the longest source
             append_pair(&mut out, u32::from(reason.number()), place as u32).unwrap();
         }
     }

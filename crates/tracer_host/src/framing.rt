@@ -39,6 +39,7 @@ impl FrameBuffer {
         ensures bytes { frame_bytes self.new ≡ (if is_ok result then frame_bytes self.old ++ framed line.now else frame_bytes self.old) }
     {
         admit(self.buffer.room(), line)?;
+        // a line that is admitted has at most 255 bytes
         self.buffer.append(&[line.len() as u8], line).unwrap();
         Ok(())
     }
