@@ -13,6 +13,8 @@ pub const LONGEST_NUMERAL: usize = 10;
 
 // Writes the numeral of `n` at the front of `place`, and tells how many digits it has; the rest of the place is
 // as it was, and all of it where the call refuses. The place is the caller's, since nothing is allocated here.
+// Inlined, since the call itself costs a small number as much as its digits do.
+#[inline]
 #[tactic(auto, using(crate::proofs::NumeralFacts::numeral_standard))]
 pub fn write_numeral(n: u32, place: &mut [u8]) -> Result<usize, NumeralError>
     ensures result { result ≡ (written n place.old).result }

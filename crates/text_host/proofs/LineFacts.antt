@@ -1,11 +1,10 @@
 -- The lines of a text, cut one by one.
-use Rattle.std.proofs.Common.{◌≡◌, ℕ, zero, suc, ◌+◌, ◌<◌, ◌≤◌, Bool, true, cond, nat_le, List, [], ◌∷◌, length, take, drop, refl, sym, ap, subst, ◌∙◌, arith, ltb, not, Some, None}
-use Rattle.std.specs.List.{after_first, before_first, list_all, onto_first, position, position_or_len, slice_split}
+use Rattle.std.proofs.Common.{◌≡◌, ℕ, zero, suc, ◌+◌, ◌<◌, ◌≤◌, Bool, true, false, cond, eqb, List, [], ◌∷◌, length, take, drop, refl, sym, subst, ◌∙◌, arith, ltb, not, Some, None}
+use Rattle.std.specs.List.{after_first, before_first, position, position_or_len}
 use Rattle.std.specs.Option.{unwrap_or}
 use Rattle.std.proofs.lemmas.List.Folds.{length-prefix_len}
 use Rattle.std.proofs.lemmas.List.Sums.{prefix_len-le-length}
-use Rattle.std.proofs.lemmas.List.Splits.{length-slice_split}
-use Rattle.text_host.specs.Lines.{is_feed, joined_to, lines_of}
+use Rattle.text_host.specs.Lines.{is_feed, lines_of}
 use Rattle.text_host.specs.Texts.{text_flaw}
 use Rattle.host.specs.Meaning.{Bounded, short_lines}
 use Rattle.host.specs.Sound.{LeftOfSound, empty_or_sound}
@@ -27,44 +26,30 @@ first_taken (b ∷ bs) n e h =
     let taken : length (take at (b ∷ bs)) ≡ at = length-prefix_len (λ x. not (is_feed x)) (b ∷ bs) in
     rw (same, taken) (lines_split b bs)
 
--- the parts between line feeds without an empty last one
-abbrev trimmed : List (List ℕ) → List (List ℕ)
-trimmed [] = []
-trimmed ([] ∷ []) = []
-trimmed ((b ∷ l) ∷ []) = (b ∷ l) ∷ []
-trimmed (l ∷ k ∷ ls) = l ∷ trimmed (k ∷ ls)
+-- whether no line is over 255 bytes, where n bytes of the first one are read already
+abbrev pub short_run : ℕ → List ℕ → Bool
+short_run n [] = true
+short_run n (b ∷ bs) = cond (eqb b 10) (short_run 0 bs) (cond (ltb n 255) (short_run (suc n) bs) false)
 
-trimmed_fed : (ls : List (List ℕ)) → 0 < length ls → trimmed ([] ∷ ls) ≡ [] ∷ trimmed ls
-trimmed_fed [] h = absurd (omega arith)
-trimmed_fed (l ∷ ls) h = refl
+-- the first of some lines, after n bytes of it, and the others
+abbrev pub short_after : ℕ → List (List ℕ) → Bool
+short_after n [] = true
+short_after n (l ∷ ls) = cond (ltb 255 (n + length l)) false (short_lines ls)
 
-trimmed_onto : (b : ℕ) (ls : List (List ℕ)) → trimmed (onto_first b ls) ≡ joined_to b (trimmed ls)
-trimmed_onto b [] = refl
-trimmed_onto b ([] ∷ []) = refl
-trimmed_onto b ((x ∷ l) ∷ []) = refl
-trimmed_onto b (l ∷ k ∷ ls) = grind arith
+short_after_none : (ls : List (List ℕ)) → short_after 0 ls ≡ short_lines ls
+short_after_none [] = refl
+short_after_none (l ∷ ls) = grind arith
 
-lines_trimmed : (bs : List ℕ) → lines_of bs ≡ trimmed (slice_split is_feed bs)
-lines_trimmed [] = refl
-lines_trimmed (b ∷ bs) =
-    let h = lines_trimmed bs in
-    let n = length-slice_split is_feed bs in
-    let fed = trimmed_fed (slice_split is_feed bs) (omega arith) in
-    let onto = trimmed_onto b (slice_split is_feed bs) in
+pub short_run_is : (n : ℕ) (xs : List ℕ) → n ≤ 255 → short_run n xs ≡ short_after n (lines_of xs)
+short_run_is n [] h = refl
+short_run_is n (b ∷ bs) h =
+    let ends = short_run_is 0 bs (omega arith) ∙ short_after_none (lines_of bs) in
+    let goes : n < 255 → short_run (suc n) bs ≡ short_after (suc n) (lines_of bs) = λ p. short_run_is (suc n) bs (omega arith) in
     grind arith
 
-abbrev pub is_short : List ℕ → Bool
-is_short l = nat_le (length l) 255
-
-short_trimmed : (ls : List (List ℕ)) → list_all is_short ls ≡ short_lines (trimmed ls)
-short_trimmed [] = refl
-short_trimmed ([] ∷ []) = refl
-short_trimmed ((b ∷ l) ∷ []) = grind arith
-short_trimmed (l ∷ k ∷ ls) = let h = short_trimmed (k ∷ ls) in grind arith
-
 -- the test of the code is the one that the contract states
-pub short_is : (bs : List ℕ) → list_all is_short (slice_split is_feed bs) ≡ short_lines (lines_of bs)
-short_is bs = short_trimmed (slice_split is_feed bs) ∙ ap short_lines (sym (lines_trimmed bs))
+pub short_is : (xs : List ℕ) → short_run 0 xs ≡ short_lines (lines_of xs)
+short_is xs = short_run_is 0 xs (omega arith) ∙ short_after_none (lines_of xs)
 
 bounded_tail : (b : ℕ) (bs : List ℕ) → Bounded (lines_of (b ∷ bs)) → Bounded (lines_of bs)
 bounded_tail b bs h = grind arith
